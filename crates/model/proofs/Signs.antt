@@ -1,0 +1,51 @@
+-- The signed numbers of document 01 behind the raised ones of specs/Row.
+use Prim.Native.Nat.{ℕ, suc, _+_, _-_, _*_, _<_, _≤_}
+use mathlib.Core.Path.{_≡_, refl, sym, ap, _∙_}
+use mathlib.Core.Logic.{⊎-elim}
+use mathlib.Core.List.{List}
+use native.Mathlib.Omega.{arith}
+use lib.Dec.{leb}
+use lib.ListN.{getD}
+use lib.IntN.{ℤ, pos, negsuc, subℕ}
+use lib.Signed.{leZ}
+use borrow.Author.Tests.{le-leb, lt-leb, lt-ltb, le-ltb}
+use Rattle.model.specs.Row.{place, quarter, raised, signed}
+use Rattle.model.proofs.Choice.{lt-or-le}
+
+-- equal differences
+pub subℕ-same : (a b e g : ℕ) → a + g ≡ e + b → subℕ a b ≡ subℕ e g
+subℕ-same a b e g q = ⊎-elim below above (lt-or-le a b)
+  where
+    below : a < b → subℕ a b ≡ subℕ e g
+    below h =
+        let m : b - suc a ≡ g - suc e = omega arith in
+        rw (lt-ltb a b h, lt-ltb e g (omega arith), m)
+
+    above : b ≤ a → subℕ a b ≡ subℕ e g
+    above h =
+        let m : a - b ≡ e - g = omega arith in
+        rw (le-ltb a b h, le-ltb e g (omega arith), m)
+
+pub signed-place : (t d : List ℕ) (c : ℕ) → getD t (getD d c 0) 0 ≤ 1023 → signed (place t d c) ≡ subℕ (4 * c) (getD t (getD d c 0) 0)
+unfolding place
+signed-place t d c h = subℕ-same (quarter c - getD t (getD d c 0) 0) raised (4 * c) (getD t (getD d c 0) 0) (omega arith)
+
+pub signed-quarter : (p : ℕ) → signed (quarter p) ≡ pos (4 * p)
+signed-quarter p = let e : 4 * p + raised - raised ≡ 4 * p = omega arith in rw (le-ltb (quarter p) raised (omega arith), e)
+
+leb-same : (a b c d : ℕ) → (a ≤ b → c ≤ d) → (b < a → d < c) → leb c d ≡ leb a b
+leb-same a b c d f g =
+    ⊎-elim (λ h. lt-leb c d (g h) ∙ sym (lt-leb a b h)) (λ h. le-leb c d (f h) ∙ sym (le-leb a b h)) (lt-or-le b a)
+
+pub signed-le : (a b : ℕ) → leZ (signed a) (signed b) ≡ leb a b
+signed-le a b =
+    ⊎-elim
+    (λ h. ⊎-elim
+    (λ k. rw (lt-ltb a raised h, lt-ltb b raised k) (leb-same a b (raised - suc b) (raised - suc a) (λ u. omega arith) (λ u. omega arith)))
+    (λ k. rw (lt-ltb a raised h, le-ltb b raised k) (sym (le-leb a b (omega arith))))
+    (lt-or-le b raised))
+    (λ h. ⊎-elim
+    (λ k. rw (le-ltb a raised h, lt-ltb b raised k) (sym (lt-leb a b (omega arith))))
+    (λ k. rw (le-ltb a raised h, le-ltb b raised k) (leb-same a b (a - raised) (b - raised) (λ u. omega arith) (λ u. omega arith)))
+    (lt-or-le b raised))
+    (lt-or-le a raised)

@@ -1,0 +1,33 @@
+-- Document 01, "Combined picture and total".
+use Prim.Native.Nat.{ℕ, _+_, _-_, _*_, _/_}
+use mathlib.Core.Bool.{Bool, true, false, cond}
+use lib.Dec.{leb, ltb, eqb}
+use Rattle.model.specs.declared.Pixel.{Pixel}
+
+-- how far two numbers differ
+abbrev pub apart : ℕ → ℕ → ℕ
+apart a b = (a - b) + (b - a)
+
+-- (left × (64 − share) + right × share + 32) div 64
+unfoldable pub shared : ℕ → ℕ → ℕ → ℕ
+shared share left right = (left * (64 - share) + right * share + 32) / 64
+
+-- Both marks 0: front depths differing by at most the tolerance, the shared sample; by more, the sample of the larger depth.
+unfoldable pub bothShown : ℕ → ℕ → Pixel → Pixel → ℕ
+bothShown share tolerance l r =
+    cond (leb (apart (l .front) (r .front)) tolerance) (shared share (l .sample) (r .sample))
+    (cond (ltb (r .front) (l .front)) (l .sample) (r .sample))
+
+-- Both marks 1: the sample of the smaller depth, left if equal.
+unfoldable pub bothHoles : Pixel → Pixel → ℕ
+bothHoles l r = cond (leb (l .front) (r .front)) (l .sample) (r .sample)
+
+-- The combined sample. One mark 0: that view's sample.
+unfoldable pub combinedOf : ℕ → ℕ → Pixel → Pixel → ℕ
+combinedOf share tolerance l r =
+    cond (eqb (l .mark) 0) (cond (eqb (r .mark) 0) (bothShown share tolerance l r) (l .sample))
+    (cond (eqb (r .mark) 0) (r .sample) (bothHoles l r))
+
+-- (combined − reference)²
+unfoldable pub squareError : ℕ → ℕ → ℕ
+squareError a b = apart a b * apart a b

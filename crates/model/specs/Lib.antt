@@ -1,0 +1,13 @@
+-- What a reader must believe, in the order of document 01.
+pub mod Lists
+pub mod Row
+pub mod Views
+pub mod Marks
+pub mod Combined
+pub mod Planes
+pub mod Fresh
+pub mod Blocks
+pub mod Span
+pub mod Reports
+pub mod Refusals
+pub mod Promises

@@ -1,0 +1,86 @@
+-- What each entry promises of its reply and of every plane it is lent: one record an entry.
+use Prim.Native.Nat.{ℕ}
+use mathlib.Core.Path.{_≡_}
+use mathlib.Core.Bool.{Bool, true, false, cond}
+use mathlib.Core.List.{List}
+use lib.IntN.{ℤ, pos, _+ℤ_, natAbs}
+use lib.ListN.{length}
+use Rattle.model.specs.declared.Settings.{Settings}
+use Rattle.model.specs.declared.Block.{Block}
+use Rattle.model.specs.declared.Refusal.{Refusal}
+use Rattle.model.specs.declared.Opened.{Opened}
+use Rattle.model.specs.declared.Trial.{Trial}
+use Rattle.model.specs.declared.Edited.{Edited}
+use Rattle.model.specs.declared.Report.{Report}
+use Rattle.model.specs.declared.Count.{Count}
+use Rattle.model.specs.declared.Count.the-variants.{Holes}
+use Rattle.model.specs.Row.{line}
+use Rattle.model.specs.Views.{isRight, viewRow}
+use Rattle.model.specs.Marks.{holesIn}
+use Rattle.model.specs.Planes.{Pictures, Depths, Held, Strip, withTotal, tableOf, heldRow}
+use Rattle.model.specs.Fresh.{stripOf, fresh, freshTotal}
+use Rattle.model.specs.Blocks.{inRows, written, changeOf}
+use Rattle.model.specs.Reports.{reportOf}
+use Rattle.model.specs.Refusals.{numberOf, reportNumber, countNumber, openNumber, checkNumber, earlyNumber, callNumber, inRange, renderNumber, holesNumber}
+
+-- RENDER draws one row of one view with that view's table. x₀ is what it is lent for writing, at entry; x the same at exit.
+pub record RenderPost (s : Settings) (v : ℕ) (texture depths : List ℕ) (x₀ x : Strip) (r : Refusal) : Type 0 where
+  pub number : numberOf r ≡ renderNumber s v texture depths x₀
+  pub refused : (numberOf r ≡ 0 → ⊥) → x ≡ x₀
+  pub drawn : numberOf r ≡ 0 → x ≡ stripOf (s .w) (viewRow (isRight v) (line (tableOf s (isRight v)) texture depths))
+
+-- OPEN fills all held planes and answers the settings with the total. h₀ is what is held at entry, h at exit.
+pub record OpenPost (s : Settings) (p : Pictures) (d : Depths) (h₀ h : Held) (r : Opened) : Type 0 where
+  pub number : numberOf (r .refusal) ≡ openNumber s p d h₀
+  pub refused-held : (numberOf (r .refusal) ≡ 0 → ⊥) → h ≡ h₀
+  pub refused-settings : (numberOf (r .refusal) ≡ 0 → ⊥) → r .settings ≡ s
+  pub held : numberOf (r .refusal) ≡ 0 → h ≡ fresh s p d
+  pub settings : numberOf (r .refusal) ≡ 0 → r .settings ≡ withTotal s (freshTotal s p d)
+
+-- Held planes and total that are those of the fresh drawing: what OPEN and SET make.
+pub record Sound (s : Settings) (p : Pictures) (d : Depths) (h : Held) : Type 0 where
+  pub held : h ≡ fresh s p d
+  pub total : s .total ≡ freshTotal s p d
+
+-- GET answers the change of the total; it is lent nothing for writing. `found` is the change that it found. Where the session is sound,
+-- `found` is decided and in range, so that 8 never occurs; elsewhere it is undecided, and 8 is judged by it.
+pub record GetPost (s : Settings) (p : Pictures) (d : Depths) (h : Held) (v : ℕ) (b : Block) (c : List ℕ) (r : Trial) : Type 0 where
+  pub found : ℤ
+  pub number : numberOf (r .refusal) ≡ callNumber s p d h v b (length c) found
+  pub refused : (numberOf (r .refusal) ≡ 0 → ⊥) → r .change ≡ pos 0
+  pub change : numberOf (r .refusal) ≡ 0 → r .change ≡ found
+  pub decided : earlyNumber s p d h v b (length c) ≡ 0 → Sound s p d h → found ≡ changeOf s p d v b c
+  pub in-range : earlyNumber s p d h v b (length c) ≡ 0 → Sound s p d h → inRange s found ≡ true
+
+-- Whatever the planes hold, the other view's planes and the rows outside the block are as they were.
+pub record Untouched (s : Settings) (v : ℕ) (b : Block) (h₀ h : Held) : Type 0 where
+  pub left : isRight v ≡ true → h .left ≡ h₀ .left
+  pub right : isRight v ≡ false → h .right ≡ h₀ .right
+  pub rows : (y : ℕ) → inRows b y ≡ false → heldRow (s .w) h y ≡ heldRow (s .w) h₀ y
+
+-- SET refuses as GET does; otherwise it writes the candidate, brings the held planes up to date and answers the change and the settings
+-- with the new total. d₀ and h₀ are the planes at entry, d and h at exit; `found` is as for GET.
+pub record SetPost (s : Settings) (p : Pictures) (d₀ d : Depths) (h₀ h : Held) (v : ℕ) (b : Block) (c : List ℕ) (r : Edited) : Type 0 where
+  pub found : ℤ
+  pub number : numberOf (r .refusal) ≡ callNumber s p d₀ h₀ v b (length c) found
+  pub refused-depths : (numberOf (r .refusal) ≡ 0 → ⊥) → d ≡ d₀
+  pub refused-held : (numberOf (r .refusal) ≡ 0 → ⊥) → h ≡ h₀
+  pub refused-settings : (numberOf (r .refusal) ≡ 0 → ⊥) → r .settings ≡ s
+  pub refused-change : (numberOf (r .refusal) ≡ 0 → ⊥) → r .change ≡ pos 0
+  pub change : numberOf (r .refusal) ≡ 0 → r .change ≡ found
+  pub settings : numberOf (r .refusal) ≡ 0 → r .settings ≡ withTotal s (natAbs (pos (s .total) +ℤ found))
+  pub depths : numberOf (r .refusal) ≡ 0 → d ≡ written s v b c d₀
+  pub untouched : numberOf (r .refusal) ≡ 0 → Untouched s v b h₀ h
+  pub decided : earlyNumber s p d₀ h₀ v b (length c) ≡ 0 → Sound s p d₀ h₀ → found ≡ changeOf s p d₀ v b c
+  pub in-range : earlyNumber s p d₀ h₀ v b (length c) ≡ 0 → Sound s p d₀ h₀ → inRange s found ≡ true
+  pub held : numberOf (r .refusal) ≡ 0 → Sound s p d₀ h₀ → h ≡ fresh s p (written s v b c d₀)
+
+-- CHECK compares every held entry with a fresh drawing.
+pub record CheckPost (s : Settings) (p : Pictures) (d : Depths) (h : Held) (r : Report) : Type 0 where
+  pub number : reportNumber r ≡ checkNumber s p d h
+  pub report : reportNumber r ≡ 0 → r ≡ reportOf s p d h
+
+-- HOLES counts the chosen view's marks of 1 at positions below w.
+pub record HolesPost (s : Settings) (v : ℕ) (left right : List ℕ) (r : Count) : Type 0 where
+  pub number : countNumber r ≡ holesNumber s v left right
+  pub count : countNumber r ≡ 0 → r ≡ Holes (holesIn (cond (isRight v) right left) (s .w) (s .h))

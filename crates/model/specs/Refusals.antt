@@ -1,0 +1,142 @@
+-- Document 01, "Calls and what they turn down": the numbers of the refusals, and the first that applies to a call, 0 for none.
+use Prim.Native.Nat.{ℕ, _+_, _*_}
+use mathlib.Core.Bool.{Bool, true, false, _&&_}
+use mathlib.Core.List.{List, [], _∷_}
+use lib.IntN.{ℤ, pos, negsuc, _+ℤ_}
+use lib.ListN.{length}
+use lib.Dec.{leb, eqb}
+use Rattle.model.specs.declared.Settings.{Settings}
+use Rattle.model.specs.declared.Block.{Block}
+use Rattle.model.specs.declared.Refusal as refusals
+use Rattle.model.specs.declared.Refusal.{Refusal}
+use Rattle.model.specs.declared.Refusal.the-variants.{None, Size, Plane, Table, Share, Bounds, View, Candidate, Total}
+use Rattle.model.specs.declared.Report.{Report}
+use Rattle.model.specs.declared.Count.{Count}
+use Rattle.model.specs.Marks.{markBytes}
+use Rattle.model.specs.Planes as planes
+use Rattle.model.specs.Planes.{Pictures, Depths, Held, Strip, area}
+
+-- the number of a refusal, 0 where the call is accepted
+abbrev pub numberOf : Refusal → ℕ
+numberOf None = 0
+numberOf Size = 1
+numberOf Plane = 2
+numberOf Table = 3
+numberOf Share = 4
+numberOf Bounds = 5
+numberOf View = 6
+numberOf Candidate = 7
+numberOf Total = 8
+
+-- the same of what CHECK answers, and of what HOLES answers
+abbrev pub reportNumber : Report → ℕ
+reportNumber (Report.Refused r) = numberOf r
+reportNumber Report.Sound = 0
+reportNumber (Report.Difference row column) = 0
+reportNumber Report.Total = 0
+
+abbrev pub countNumber : Count → ℕ
+countNumber (Count.Refused r) = numberOf r
+countNumber (Count.Holes n) = 0
+
+-- number k where the test fails, else the rest of the list
+abbrev pub unless : Bool → ℕ → ℕ → ℕ
+unless true k rest = rest
+unless false k rest = k
+
+-- 1: w or h outside 1 to 4,096
+unfoldable pub sideOk : ℕ → Bool
+sideOk n = leb 1 n && leb n 4096
+
+unfoldable pub sizeOk : Settings → Bool
+sizeOk s = sideOk (s .w) && sideOk (s .h)
+
+-- 2: a plane without its exact length
+unfoldable pub picturesSized : ℕ → Pictures → Bool
+picturesSized n p = eqb (length (p .left)) n && (eqb (length (p .right)) n && eqb (length (p .reference)) n)
+
+unfoldable pub depthsSized : ℕ → Depths → Bool
+depthsSized n d = eqb (length (d .left)) n && eqb (length (d .right)) n
+
+unfoldable pub viewSized : ℕ → ℕ → planes.View → Bool
+viewSized n m v =
+    eqb (length (v .samples)) n && (eqb (length (v .fronts)) n && (eqb (length (v .limits)) n && eqb (length (v .marks)) m))
+
+unfoldable pub heldSized : ℕ → ℕ → Held → Bool
+heldSized n m h = viewSized n m (h .left) && (viewSized n m (h .right) && eqb (length (h .combined)) n)
+
+unfoldable pub planesSized : Settings → Pictures → Depths → Held → Bool
+planesSized s p d h =
+    picturesSized (area s) p && (depthsSized (area s) d && heldSized (area s) (markBytes (s .w) * s .h) h)
+
+-- 3: an entry of either table above 1,023
+unfoldable pub tableOk : List ℕ → Bool
+tableOk [] = true
+tableOk (x ∷ xs) = leb x 1023 && tableOk xs
+
+unfoldable pub tablesOk : Settings → Bool
+tablesOk s = tableOk (s .left) && tableOk (s .right)
+
+-- 4: share above 64
+abbrev pub shareOk : Settings → Bool
+shareOk s = leb (s .share) 64
+
+-- 5: block of zero width or height, or reaching past an edge
+unfoldable pub blockOk : Settings → Block → Bool
+blockOk s b =
+    (leb 1 (b .width) && leb (b .column + b .width) (s .w)) && (leb 1 (b .height) && leb (b .row + b .height) (s .h))
+
+-- 6: view neither 0 nor 1
+abbrev pub viewOk : ℕ → Bool
+viewOk v = leb v 1
+
+-- 7: candidate length not width × height
+abbrev pub candidateOk : Block → ℕ → Bool
+candidateOk b n = eqb n (b .width * b .height)
+
+-- 8: held total plus change below 0 or above 65,025 × w × h
+abbrev pub within : ℤ → ℕ → Bool
+within (pos n) most = leb n most
+within (negsuc n) most = false
+
+unfoldable pub inRange : Settings → ℤ → Bool
+inRange s change = within (pos (s .total) +ℤ change) (65025 * area s)
+
+-- 1, 2, 3, 4, then the rest of the call's list
+unfoldable pub commonThen : Settings → Pictures → Depths → Held → ℕ → ℕ
+commonThen s p d h rest = unless (sizeOk s) 1 (unless (planesSized s p d h) 2 (unless (tablesOk s) 3 (unless (shareOk s) 4 rest)))
+
+-- 6, 5, 7, then the rest; n is the candidate's length
+unfoldable pub ownThen : Settings → ℕ → Block → ℕ → ℕ → ℕ
+ownThen s v b n rest = unless (viewOk v) 6 (unless (blockOk s b) 5 (unless (candidateOk b n) 7 rest))
+
+-- OPEN refuses 1, 2, 3, 4, and so does CHECK.
+abbrev pub openNumber : Settings → Pictures → Depths → Held → ℕ
+openNumber s p d h = commonThen s p d h 0
+
+abbrev pub checkNumber : Settings → Pictures → Depths → Held → ℕ
+checkNumber s p d h = commonThen s p d h 0
+
+-- GET and SET refuse 1, 2, 3, 4, 6, 5, 7, then 8, which is judged by the change that was found.
+abbrev pub callNumber : Settings → Pictures → Depths → Held → ℕ → Block → ℕ → ℤ → ℕ
+callNumber s p d h v b n change = commonThen s p d h (ownThen s v b n (unless (inRange s change) 8 0))
+
+-- the same with 8 left out
+abbrev pub earlyNumber : Settings → Pictures → Depths → Held → ℕ → Block → ℕ → ℕ
+earlyNumber s p d h v b n = commonThen s p d h (ownThen s v b n 0)
+
+-- RENDER refuses 1, 2, 3, then 6; h is not tested.
+unfoldable pub stripSized : ℕ → List ℕ → List ℕ → Strip → Bool
+stripSized w texture depths x =
+    (eqb (length texture) w && eqb (length depths) w)
+    && (eqb (length (x .samples)) w && (eqb (length (x .marks)) (markBytes w) && eqb (length (x .fronts)) w))
+
+unfoldable pub renderNumber : Settings → ℕ → List ℕ → List ℕ → Strip → ℕ
+renderNumber s v texture depths x =
+    unless (sideOk (s .w)) 1 (unless (stripSized (s .w) texture depths x) 2 (unless (tablesOk s) 3 (unless (viewOk v) 6 0)))
+
+-- HOLES refuses 1, 2, then 6.
+unfoldable pub holesNumber : Settings → ℕ → List ℕ → List ℕ → ℕ
+holesNumber s v left right =
+    unless (sizeOk s) 1
+    (unless (eqb (length left) (markBytes (s .w) * s .h) && eqb (length right) (markBytes (s .w) * s .h)) 2 (unless (viewOk v) 6 0))

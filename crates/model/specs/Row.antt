@@ -1,0 +1,137 @@
+-- Document 01, "One row of the left view".
+--
+-- A place, 4 × c − table[d] in quarters, may be as low as −1,023. Here every number of quarters is kept as a natural number,
+-- raised by 1,024, and `signed` takes that away again. The laws of proofs/Signs show that nothing is lost by it:
+--     signed-place     the raised place of column c stands for 4 × c − table[d]
+--     signed-quarter   the raised position p stands for 4 × p
+--     signed-le        raised numbers are ordered as what they stand for
+--     signed-gap       and differ by as much
+use Prim.Native.Nat.{ℕ, zero, suc, _+_, _-_, _*_, _/_, min}
+use mathlib.Core.Bool.{Bool, true, false, cond}
+use mathlib.Core.List.{List}
+use lib.ListN.{length, getD}
+use lib.Dec.{leb}
+use lib.IntN.{ℤ, pos, subℕ}
+use lib.Signed.{ltZ}
+use Rattle.model.specs.declared.Kind.{Kind}
+use Rattle.model.specs.declared.Kind.the-variants.{Hidden, Smooth, Torn}
+use Rattle.model.specs.declared.Pixel.{Pixel}
+use Rattle.model.specs.Lists.{listOf}
+
+-- What a row is drawn from: a table of disparities, a row of texture samples, a row of depths.
+pub record Line : Type 0 where
+  pub table : List ℕ
+  pub texture : List ℕ
+  pub depths : List ℕ
+
+abbrev pub line : List ℕ → List ℕ → List ℕ → Line
+line t s d = record { table = t; texture = s; depths = d }
+
+-- w, the number of its columns
+abbrev pub width : Line → ℕ
+width l = length (l .depths)
+
+abbrev pub raised : ℕ
+raised = 1024
+
+-- what a raised number of quarters stands for
+abbrev pub signed : ℕ → ℤ
+signed x = subℕ x raised
+
+-- 4 × p, raised
+abbrev pub quarter : ℕ → ℕ
+quarter p = 4 * p + raised
+
+-- The place of column c with depth d is 4 × c − table[d].
+unfoldable pub place : List ℕ → List ℕ → ℕ → ℕ
+place t d c = quarter c - getD t (getD d c 0) 0
+
+abbrev pub placeIn : Line → ℕ → ℕ
+placeIn l = place (l .table) (l .depths)
+
+-- the least place of the n columns from c on, and `top` where it is less
+unfoldable pub least : (ℕ → ℕ) → ℕ → ℕ → ℕ → ℕ
+least f top c zero = top
+least f top c (suc n) = min (f c) (least f top (suc c) n)
+
+-- The limit of c is the least place among columns c to w − 1. Past the last column it is the row's end, above every place.
+unfoldable pub limit : (ℕ → ℕ) → ℕ → ℕ → ℕ
+limit f w c = least f (quarter w) c (w - c)
+
+-- The owner of x: the greatest column below n whose place is at most x.
+unfoldable pub owner : (ℕ → ℕ) → ℕ → ℕ → ℕ
+owner f x zero = 0
+owner f x (suc n) = cond (leb (f n) x) n (owner f x n)
+
+-- The kind of a pair follows from its gap: 0 or less is hidden; 1 to 8 is smooth; 9 and more is torn.
+unfoldable pub kindOf : ℤ → Kind
+kindOf gap = cond (ltZ gap (pos 1)) Hidden (cond (ltZ gap (pos 9)) Smooth Torn)
+
+-- k = (8 × t + gap) div (2 × gap), from 0 to 4
+unfoldable pub stepOf : ℕ → ℕ → ℕ
+stepOf t gap = (8 * t + gap) / (2 * gap)
+
+-- (s[c] × (4 − k) + s[c + 1] × k + 2) div 4
+unfoldable pub mixed : List ℕ → ℕ → ℕ → ℕ
+mixed s c k = (getD s c 0 * (4 - k) + getD s (c + 1) 0 * k + 2) / 4
+
+abbrev pub pixel : ℕ → ℕ → ℕ → Pixel
+pixel sample mark front = record { sample = sample; mark = mark; front = front }
+
+-- column c's own sample and depth, with a mark
+abbrev pub plain : Line → ℕ → ℕ → Pixel
+plain l c mark = pixel (getD (l .texture) c 0) mark (getD (l .depths) c 0)
+
+-- Smooth: the mixed sample, mark 0, front depth d[c].
+unfoldable pub smoothPixel : Line → ℕ → ℕ → ℕ → Pixel
+smoothPixel l c t gap = pixel (mixed (l .texture) c (stepOf t gap)) 0 (getD (l .depths) c 0)
+
+-- Torn, t at most 1: s[c], mark 0, d[c]. Torn, t of 2 or more: s[c + 1], mark 1, d[c + 1].
+unfoldable pub tornPixel : Line → ℕ → ℕ → Pixel
+tornPixel l c t = cond (leb t 1) (plain l c 0) (plain l (c + 1) 1)
+
+-- Last column: s[c] and d[c]; mark 0 if t is at most 1, else 1.
+unfoldable pub lastPixel : Line → ℕ → ℕ → Pixel
+lastPixel l c t = cond (leb t 1) (plain l c 0) (plain l c 1)
+
+-- A hidden pair owns nothing, so its case shows nowhere.
+abbrev pub byKind : Kind → Pixel → Pixel → Pixel → Pixel
+byKind Hidden hidden smooth torn = hidden
+byKind Smooth hidden smooth torn = smooth
+byKind Torn hidden smooth torn = torn
+
+-- what the pair of columns c and c + 1 shows at t
+unfoldable pub pairPixel : Line → ℕ → ℕ → Pixel
+pairPixel l c t =
+    byKind (kindOf (subℕ (placeIn l (c + 1)) (placeIn l c)))
+    (plain l c 0)
+    (smoothPixel l c t (placeIn l (c + 1) - placeIn l c))
+    (tornPixel l c t)
+
+-- what x shows where column c owns it; t = 4 × p − place(c)
+unfoldable pub ownedPixel : Line → ℕ → ℕ → Pixel
+ownedPixel l c x = cond (leb (width l) (c + 1)) (lastPixel l c (x - placeIn l c)) (pairPixel l c (x - placeIn l c))
+
+-- Position p shows what its owner shows there.
+unfoldable pub pixelAt : Line → ℕ → Pixel
+pixelAt l p = ownedPixel l (owner (placeIn l) (quarter p) (width l)) (quarter p)
+
+-- the limit of column c, as a signed number
+unfoldable pub limitAt : Line → ℕ → ℤ
+limitAt l c = signed (limit (placeIn l) (width l) c)
+
+-- The drawn row, position by position and, for the limits, column by column.
+pub record Row : Type 0 where
+  pub samples : List ℕ
+  pub marks : List ℕ
+  pub fronts : List ℕ
+  pub limits : List ℤ
+
+unfoldable pub leftRow : Line → Row
+leftRow l =
+    record
+      { samples = listOf (λ p. pixelAt l p .sample) (width l)
+      ; marks = listOf (λ p. pixelAt l p .mark) (width l)
+      ; fronts = listOf (λ p. pixelAt l p .front) (width l)
+      ; limits = listOf (limitAt l) (width l)
+      }

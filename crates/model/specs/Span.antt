@@ -1,0 +1,42 @@
+-- Document 01, "The span of an edit".
+use Prim.Native.Nat.{ℕ, _+_, _-_}
+use mathlib.Core.Bool.{Bool, true, false, cond, _&&_}
+use lib.Dec.{leb, ltb}
+use Rattle.model.specs.declared.Settings.{Settings}
+use Rattle.model.specs.declared.Block.{Block}
+use Rattle.model.specs.Lists.{rowOf}
+use Rattle.model.specs.Row.{place, least, limit, quarter}
+use Rattle.model.specs.Views.{seen, entryOf}
+use Rattle.model.specs.Planes.{Depths, tableOf, depthsOf}
+
+-- Low is the least of the old places f and the new places g of columns a to b and the place of a − 1.
+-- At a = 0 that last is column 0's own, which is counted already.
+unfoldable pub spanLow : (ℕ → ℕ) → (ℕ → ℕ) → ℕ → ℕ → ℕ
+spanLow f g a b = least f (least g (f (a - 1)) a (b + 1 - a)) a (b + 1 - a)
+
+-- High is the limit of b + 1; if b is the last column the span runs to the row's end.
+unfoldable pub spanHigh : (ℕ → ℕ) → ℕ → ℕ → ℕ
+spanHigh f w b = limit f w (b + 1)
+
+-- The span is the positions p with low ≤ 4 × p < high.
+unfoldable pub inSpan : (ℕ → ℕ) → (ℕ → ℕ) → ℕ → ℕ → ℕ → ℕ → Bool
+inSpan f g w a b p = leb (spanLow f g a b) (quarter p) && ltb (quarter p) (spanHigh f w b)
+
+-- the first column, as the view reads the row, of the n columns from a on of a row of w; right view: the reversed row
+unfoldable pub firstColumn : Bool → ℕ → ℕ → ℕ → ℕ
+firstColumn true w a n = w - (a + n)
+firstColumn false w a n = a
+
+-- the places of row y, as the view reads it
+unfoldable pub placesOf : Settings → Bool → Depths → ℕ → ℕ → ℕ
+placesOf s right d y = place (tableOf s right) (seen right (rowOf (depthsOf d right) (s .w) y))
+
+-- Entry x of row y lies in the span of an edit of the block from the depths d to the depths e.
+unfoldable pub spanHas : Settings → Bool → Block → Depths → Depths → ℕ → ℕ → Bool
+spanHas s right b d e y x =
+    let a = firstColumn right (s .w) (b .column) (b .width) in
+    inSpan (placesOf s right d y) (placesOf s right e y) (s .w) a (a + b .width - 1) (entryOf right (s .w) x)
+
+-- Limits may change at columns up to b only, reversed likewise: entry x stands for such a column.
+unfoldable pub limitMoves : Settings → Bool → Block → ℕ → Bool
+limitMoves s right b x = ltb (entryOf right (s .w) x) (firstColumn right (s .w) (b .column) (b .width) + b .width)

@@ -1,0 +1,101 @@
+// The types that every entry of the library shares.
+ghost use mathlib.Core.Path.{_≡_};
+ghost use Rattle.model.specs.Refusals.{numberOf};
+
+// The settings of a session, passed and answered by value. `left` and `right` are the two tables of disparities in quarter samples.
+#[repr(C)]
+pub struct Settings {
+    pub w: u32,
+    pub h: u32,
+    pub left: [u16; 256],
+    pub right: [u16; 256],
+    pub share: u8,
+    pub tolerance: u8,
+    pub total: u64,
+}
+
+// A block of a depth plane: its first column, first row, width and height.
+#[repr(C)]
+pub struct Block {
+    pub column: u32,
+    pub row: u32,
+    pub width: u32,
+    pub height: u32,
+}
+
+// The kind of a pair of neighbouring columns.
+pub enum Kind {
+    Hidden,
+    Smooth,
+    Torn,
+}
+
+// What a view shows at a position: its sample, its hole mark (0 or 1) and its front depth.
+pub struct Pixel {
+    pub sample: u8,
+    pub mark: u8,
+    pub front: u8,
+}
+
+// Why a call is refused; `None` where it is accepted.
+pub enum Refusal {
+    None,
+    Size,
+    Plane,
+    Table,
+    Share,
+    Bounds,
+    View,
+    Candidate,
+    Total,
+}
+
+// What OPEN answers.
+pub struct Opened {
+    pub refusal: Refusal,
+    pub settings: Settings,
+}
+
+// What GET answers.
+pub struct Trial {
+    pub refusal: Refusal,
+    pub change: i64,
+}
+
+// What SET answers.
+pub struct Edited {
+    pub refusal: Refusal,
+    pub change: i64,
+    pub settings: Settings,
+}
+
+// What CHECK answers.
+pub enum Report {
+    Refused(Refusal),
+    Sound,
+    Difference { row: u32, column: u32 },
+    Total,
+}
+
+// What HOLES answers.
+pub enum Count {
+    Refused(Refusal),
+    Holes(u64),
+}
+
+// The number of a refusal in document 01, 0 for none.
+pub fn number(refusal: Refusal) -> u32
+    ensures { λ r. ⌜ r ≡ numberOf refusal ⌝ }
+{
+    match refusal {
+        Refusal::None => 0,
+        Refusal::Size => 1,
+        Refusal::Plane => 2,
+        Refusal::Table => 3,
+        Refusal::Share => 4,
+        Refusal::Bounds => 5,
+        Refusal::View => 6,
+        Refusal::Candidate => 7,
+        Refusal::Total => 8,
+    }
+}
