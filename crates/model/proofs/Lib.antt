@@ -6,3 +6,12 @@ pub mod Owners
 pub mod Signs
 pub mod Views
 pub mod Packing
+pub mod Spans
+pub mod Fresh
+pub mod Written
+pub mod Totals
+pub mod Locality
+pub mod Refusals
+pub mod Pairs
+pub mod Reports
+pub mod Promises

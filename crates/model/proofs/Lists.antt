@@ -69,7 +69,7 @@ module _ {A : Type 0} where
   unfolding rowOf
   row-ext z p q w y e h =
       let n : length (take w (drop (y * w) p)) ≡ length (take w (drop (y * w) q)) =
-          length-take w (drop (y * w) p) ∙ rw (length-drop (y * w) p, e, ← length-drop (y * w) q) (sym (length-take w (drop (y * w) q))) in
+      length-take w (drop (y * w) p) ∙ rw (length-drop (y * w) p, e, ← length-drop (y * w) q) (sym (length-take w (drop (y * w) q))) in
       ext-getD z (take w (drop (y * w) p)) (take w (drop (y * w) q)) n
       (λ i k.
       let l : i < w = omega (arith, length-take w (drop (y * w) p)) in

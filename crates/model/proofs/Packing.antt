@@ -103,8 +103,8 @@ mark-packRow (suc n) ms h =
     by-byte (λ (p : ℕ). p < 8 * suc n → markAt (packRow (suc n) ms) p ≡ getD ms p 0)
     (λ p hp _. rw (quot-low p hp, rest-low p hp) (bit-packByte (take 8 ms) p (flags-take 8 ms h) ∙ getD-take 8 ms p 0 hp))
     (λ q hp.
-      rw (quot-high q, rest-high q)
-      (mark-packRow n (drop 8 ms) (flags-drop 8 ms h) q (omega arith) ∙ getD-drop 8 ms q 0))
+    rw (quot-high q, rest-high q)
+    (mark-packRow n (drop 8 ms) (flags-drop 8 ms h) q (omega arith) ∙ getD-drop 8 ms q 0))
 
 spare-at : (n : ℕ) (ms : List ℕ) → Flags ms → (w : ℕ) → length ms ≤ w → getD (packRow n ms) (w / 8) 0 / 2 ^ (w % 8) ≡ 0
 unfolding packRow
@@ -112,7 +112,7 @@ spare-at zero ms h = λ w g. zero-div (2 ^ (w % 8))
 spare-at (suc n) ms h =
     by-byte (λ (w : ℕ). length ms ≤ w → getD (packRow (suc n) ms) (w / 8) 0 / 2 ^ (w % 8) ≡ 0)
     (λ w hw g.
-      rw (quot-low w hw, rest-low w hw) (above-packByte (take 8 ms) w (flags-take 8 ms h) (omega (arith, length-take 8 ms))))
+    rw (quot-low w hw, rest-low w hw) (above-packByte (take 8 ms) w (flags-take 8 ms h) (omega (arith, length-take 8 ms))))
     (λ q g. rw (quot-high q, rest-high q) (spare-at n (drop 8 ms) (flags-drop 8 ms h) q (omega (arith, length-drop 8 ms))))
 
 pub spare-packRow : (w : ℕ) (ms : List ℕ) → Flags ms → length ms ≡ w → spareBits (packRow (markBytes w) ms) w ≡ 0
@@ -126,6 +126,7 @@ bytes-packRow (suc n) ms h zero = byte (take 8 ms) (flags-take 8 ms h) (omega (a
     grow : (k m : ℕ) → 2 ^ k ≤ 2 ^ (k + m)
     grow k zero = let e : k + 0 ≡ k = omega arith in rw e (omega arith)
     grow k (suc m) = let e : k + suc m ≡ suc (k + m) = omega arith in rw (e, pow-succ' 2 (k + m)) (omega (arith, grow k m))
+
     byte : (l : List ℕ) → Flags l → length l ≤ 8 → packByte l < 256
     byte l g k =
         let e : length l + (8 - length l) ≡ 8 = omega arith in
@@ -145,6 +146,7 @@ byte-ext (suc n) a b ha hb h =
   where
     up : (a k : ℕ) → bitOf (a / 2) k ≡ bitOf a (suc k)
     up a k = ap (λ (n : ℕ). n % 2) (div-div-eq-div-mul a 2 (2 ^ k) ∙ ap (λ (m : ℕ). a / m) (sym (pow-succ' 2 k)))
+
     ends : (a b : ℕ) → a / 1 % 2 ≡ b / 1 % 2 → a / 2 ≡ b / 2 → a ≡ b
     ends a b z e = omega arith
 
@@ -152,9 +154,10 @@ pub marks-ext : (a b : List ℕ) → length a ≡ length b → ((j : ℕ) → ge
 marks-ext a b e ha hb h =
     ext-getD 0 a b e
     (λ j l. byte-ext 8 (getD a j 0) (getD b j 0) (ha j) (hb j)
-      (λ k m. subst₂ (λ (q r : ℕ). bitOf (getD a q 0) r ≡ bitOf (getD b q 0) r) (quot j k m) (rest j k m) (h (8 * j + k) (omega arith))))
+    (λ k m. subst₂ (λ (q r : ℕ). bitOf (getD a q 0) r ≡ bitOf (getD b q 0) r) (quot j k m) (rest j k m) (h (8 * j + k) (omega arith))))
   where
     quot : (j k : ℕ) → k < 8 → (8 * j + k) / 8 ≡ j
     quot j k m = omega arith
+
     rest : (j k : ℕ) → k < 8 → (8 * j + k) % 8 ≡ k
     rest j k m = omega arith

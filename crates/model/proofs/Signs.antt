@@ -1,12 +1,12 @@
 -- The signed numbers of document 01 behind the raised ones of specs/Row.
-use Prim.Native.Nat.{ℕ, suc, _+_, _-_, _*_, _<_, _≤_}
+use Prim.Native.Nat.{ℕ, zero, suc, _+_, _-_, _*_, _<_, _≤_}
 use mathlib.Core.Path.{_≡_, refl, sym, ap, _∙_}
 use mathlib.Core.Logic.{⊎-elim}
 use mathlib.Core.List.{List}
 use native.Mathlib.Omega.{arith}
 use lib.Dec.{leb}
 use lib.ListN.{getD}
-use lib.IntN.{ℤ, pos, negsuc, subℕ}
+use lib.IntN.{ℤ, pos, negsuc, negℤ, subℕ, _+ℤ_, _-ℤ_, +ℤ-assoc, +ℤ-comm, +ℤ-idl, +ℤ-invl, negℤ-+ℤ, negℤ-negℤ}
 use lib.Signed.{leZ}
 use borrow.Author.Tests.{le-leb, lt-leb, lt-ltb, le-ltb}
 use Rattle.model.specs.Row.{place, quarter, raised, signed}
@@ -49,3 +49,30 @@ signed-le a b =
     (λ k. rw (le-ltb a raised h, le-ltb b raised k) (leb-same a b (a - raised) (b - raised) (λ u. omega arith) (λ u. omega arith)))
     (lt-or-le b raised))
     (lt-or-le a raised)
+
+-- ---- differences
+
+pub minus : (a b : ℕ) → pos a -ℤ pos b ≡ subℕ a b
+minus a zero = let e : a + 0 ≡ a - 0 = omega arith in ap pos e ∙ sym (rw (le-ltb a 0 (omega arith)))
+minus a (suc b) = refl
+
+pub subℕ-chain : (a b c : ℕ) → subℕ a b +ℤ subℕ b c ≡ subℕ a c
+subℕ-chain a b c =
+    rw (← minus a b, ← minus b c)
+    (+ℤ-assoc (pos a) (negℤ (pos b)) (pos b -ℤ pos c)
+    ∙ ap (λ (x : ℤ). pos a +ℤ x)
+    (sym (+ℤ-assoc (negℤ (pos b)) (pos b) (negℤ (pos c)))
+    ∙ ap (λ (x : ℤ). x +ℤ negℤ (pos c)) (+ℤ-invl (pos b))
+    ∙ +ℤ-idl (negℤ (pos c)))
+    ∙ minus a c)
+
+pub subℕ-swap : (a b : ℕ) → negℤ (subℕ a b) ≡ subℕ b a
+subℕ-swap a b =
+    rw (← minus a b)
+    (negℤ-+ℤ (pos a) (negℤ (pos b))
+    ∙ ap (λ (x : ℤ). negℤ (pos a) +ℤ x) (negℤ-negℤ (pos b))
+    ∙ +ℤ-comm (negℤ (pos a)) (pos b)
+    ∙ minus b a)
+
+pub signed-gap : (a b : ℕ) → signed a -ℤ signed b ≡ subℕ a b
+signed-gap a b = ap (λ (x : ℤ). signed a +ℤ x) (subℕ-swap b raised) ∙ subℕ-chain a raised b

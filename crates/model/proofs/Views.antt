@@ -1,7 +1,7 @@
 -- A row as a view reads it.
 --     length-seen, seen-seen, getD-seen, set-seen     a reversed list, its entries, and a store
 --     entry-within, entry-entry                       entries and positions, both ways
---     getD-view-..                                    what a view's drawn row has at an entry
+--     getD-view-.., shown-view                        what a view's drawn row has and shows at an entry
 use Prim.Native.Nat.{ℕ, zero, suc, _+_, _-_, _*_, _<_, _≤_}
 use mathlib.Core.Path.{_≡_, refl, sym, ap, _∙_}
 use mathlib.Core.Bool.{Bool, true, false}
@@ -13,6 +13,7 @@ use lib.ListN.{length, getD, set, length-reverse, length-set, List·getD-append}
 use lib.Seq.{getD-at, getD-set-same, getD-set-other, ext-getD}
 use lib.IntN.{ℤ, pos}
 use Rattle.model.specs.Lists.{listOf}
+use Rattle.model.specs.Fresh.{shownAt}
 use Rattle.model.specs.Row.{Line, line, width, pixelAt, limitAt, leftRow}
 use Rattle.model.specs.Views.{seen, viewRow, entryOf}
 use Rattle.model.proofs.Choice.{lt-or-le}
@@ -51,8 +52,8 @@ module _ {A : Type 0} where
       let k′ : j < length (set l (length l - 1 - i) v) = omega (arith, length-set l (length l - 1 - i) v) in
       let e : length (set l (length l - 1 - i) v) - 1 - j ≡ length l - 1 - j = ap (λ (q : ℕ). q - 1 - j) (length-set l (length l - 1 - i) v) in
       let other : (j ≡ i → ⊥) → getD (set l (length l - 1 - i) v) (length l - 1 - j) z ≡ getD (set (reverse l) i v) j z = λ ne.
-          getD-set-other l (length l - 1 - i) (length l - 1 - j) v z (λ q. ne (omega arith)) ∙ sym (getD-reverse z l j j<)
-          ∙ sym (getD-set-other (reverse l) i j v z ne) in
+      getD-set-other l (length l - 1 - i) (length l - 1 - j) v z (λ q. ne (omega arith)) ∙ sym (getD-reverse z l j j<)
+      ∙ sym (getD-set-other (reverse l) i j v z ne) in
       getD-reverse z (set l (length l - 1 - i) v) j k′ ∙ ap (λ (q : ℕ). getD (set l (length l - 1 - i) v) q z) e
       ∙ ⊎-elim (λ u. other (λ q. omega arith))
       (λ u. ⊎-elim (λ w. other (λ q. omega arith))
@@ -136,3 +137,6 @@ module _ (r : Bool) (l : Line) where
     pub getD-view-limits : getD (viewRow r l .limits) i (pos 0) ≡ limitAt (seenLine r l) (entryOf r (width l) i)
     unfolding viewRow leftRow
     getD-view-limits = at-width (pos 0) (limitAt (seenLine r l))
+
+    pub shown-view : shownAt (viewRow r l) i ≡ pixelAt (seenLine r l) (entryOf r (width l) i)
+    shown-view = rw (getD-view-samples, getD-view-marks, getD-view-fronts)

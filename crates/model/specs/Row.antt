@@ -129,9 +129,9 @@ pub record Row : Type 0 where
 
 unfoldable pub leftRow : Line → Row
 leftRow l =
-    record
-      { samples = listOf (λ p. pixelAt l p .sample) (width l)
-      ; marks = listOf (λ p. pixelAt l p .mark) (width l)
-      ; fronts = listOf (λ p. pixelAt l p .front) (width l)
-      ; limits = listOf (limitAt l) (width l)
-      }
+    record {
+      samples = listOf (λ p. pixelAt l p .sample) (width l);
+      marks = listOf (λ p. pixelAt l p .mark) (width l);
+      fronts = listOf (λ p. pixelAt l p .front) (width l);
+      limits = listOf (limitAt l) (width l);
+    }

@@ -1,0 +1,3 @@
+-- The cases hold, and the other definitions compute.
+pub mod Cases
+pub mod Computed

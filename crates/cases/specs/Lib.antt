@@ -1,0 +1,2 @@
+-- Cases a to m of document 01.
+pub mod Cases

@@ -1,0 +1,1 @@
+// The small rows and sessions of document 01: no code.

@@ -1,0 +1,355 @@
+-- The refusals: each test as plain facts, and what a number of a list says of the tests.
+--     ..-yes, ..-facts                    a test from its facts, and the facts from the test
+--     common-rest, common-stays, ..       a number that applies is the same whatever follows in the list; where none applies, what follows decides
+--     call-late, call-early               8 decides exactly where nothing before it does
+--     view-first, block-next, ..          the first that applies wins
+--     in-range-sound                      in a sound session 8 never applies
+use Prim.Native.Nat.{ℕ, zero, suc, _+_, _-_, _*_, _/_, _≤_, _<_}
+use mathlib.Core.Path.{_≡_, refl, ap, sym, _∙_}
+use mathlib.Core.Bool.{Bool, true, false, _&&_}
+use mathlib.Core.List.{List, [], _∷_}
+use mathlib.Core.Logic.{_⊎_, inl, inr, ⊎-elim}
+use native.Mathlib.Omega.{arith}
+use native.Mathlib.Nat.{mul-le-mul, not-suc-le-zero}
+use lib.ListN.{length, getD}
+use lib.Dec.{leb, eqb}
+use lib.IntN.{ℤ, pos, negsuc, subℕ, _+ℤ_, _-ℤ_, +ℤ-comm, -ℤ-+ℤ-cancel}
+use borrow.Author.Tests.{le-leb, leb-true, eq-eqb, eqb-true, eqb-false}
+use Rattle.model.specs.declared.Settings.{Settings}
+use Rattle.model.specs.declared.Block.{Block}
+use Rattle.model.specs.Marks.{markBytes}
+use Rattle.model.specs.Planes.{Pictures, Depths, View, Held, Strip, area, withTotal}
+use Rattle.model.specs.Refusals.{unless, sideOk, sizeOk, picturesSized, depthsSized, viewSized, heldSized, planesSized, tableOk, tablesOk, shareOk, blockOk, viewOk, candidateOk, within, inRange, commonThen, ownThen, openNumber, earlyNumber, callNumber}
+use Rattle.model.proofs.Choice.{bool-cases, and-true, and-left, and-right}
+use Rattle.model.proofs.Fresh.{DepthsOf}
+
+-- ---- one test of a list
+
+pub unless-true : (t : Bool) (k rest : ℕ) → unless t (suc k) rest ≡ 0 → t ≡ true
+unless-true true k rest h = refl
+unless-true false k rest h = absurd (omega arith)
+
+pub unless-rest : (t : Bool) (k rest : ℕ) → unless t (suc k) rest ≡ 0 → rest ≡ 0
+unless-rest true k rest h = h
+unless-rest false k rest h = absurd (omega arith)
+
+-- ---- each test as plain facts
+
+pub record Side (n : ℕ) : Type 0 where
+  pub some : 1 ≤ n
+  pub most : n ≤ 4096
+
+pub side-yes : (n : ℕ) → Side n → sideOk n ≡ true
+unfolding sideOk
+side-yes n h = and-true _ _ (le-leb 1 n (h .some)) (le-leb n 4096 (h .most))
+
+pub side-facts : (n : ℕ) → sideOk n ≡ true → Side n
+unfolding sideOk
+side-facts n e =
+    record { some = leb-true 1 n (and-left (leb 1 n) _ e); most = leb-true n 4096 (and-right (leb 1 n) _ e) }
+
+pub record Size (s : Settings) : Type 0 where
+  pub w : Side (s .w)
+  pub h : Side (s .h)
+
+pub size-yes : (s : Settings) → Size s → sizeOk s ≡ true
+unfolding sizeOk
+size-yes s h = and-true _ _ (side-yes (s .w) (h .w)) (side-yes (s .h) (h .h))
+
+pub size-facts : (s : Settings) → sizeOk s ≡ true → Size s
+unfolding sizeOk
+size-facts s e =
+    record { w = side-facts (s .w) (and-left (sideOk (s .w)) _ e); h = side-facts (s .h) (and-right (sideOk (s .w)) _ e) }
+
+pub record PicturesOf (n : ℕ) (p : Pictures) : Type 0 where
+  pub left : length (p .left) ≡ n
+  pub right : length (p .right) ≡ n
+  pub reference : length (p .reference) ≡ n
+
+pub pictures-yes : (n : ℕ) (p : Pictures) → PicturesOf n p → picturesSized n p ≡ true
+unfolding picturesSized
+pictures-yes n p h = rw (eq-eqb _ _ (h .left), eq-eqb _ _ (h .right), eq-eqb _ _ (h .reference))
+
+pub pictures-facts : (n : ℕ) (p : Pictures) → picturesSized n p ≡ true → PicturesOf n p
+unfolding picturesSized
+pictures-facts n p e =
+    let e₁ = and-right (eqb (length (p .left)) n) _ e in
+    record {
+      left = eqb-true _ _ (and-left (eqb (length (p .left)) n) _ e);
+      right = eqb-true _ _ (and-left (eqb (length (p .right)) n) _ e₁);
+      reference = eqb-true _ _ (and-right (eqb (length (p .right)) n) _ e₁);
+    }
+
+pub depths-yes : (n : ℕ) (d : Depths) → DepthsOf n d → depthsSized n d ≡ true
+unfolding depthsSized
+depths-yes n d h = rw (eq-eqb _ _ (h .left), eq-eqb _ _ (h .right))
+
+pub depths-facts : (n : ℕ) (d : Depths) → depthsSized n d ≡ true → DepthsOf n d
+unfolding depthsSized
+depths-facts n d e =
+    record {
+      left = eqb-true _ _ (and-left (eqb (length (d .left)) n) _ e);
+      right = eqb-true _ _ (and-right (eqb (length (d .left)) n) _ e);
+    }
+
+pub record ViewOf (n m : ℕ) (v : View) : Type 0 where
+  pub samples : length (v .samples) ≡ n
+  pub fronts : length (v .fronts) ≡ n
+  pub limits : length (v .limits) ≡ n
+  pub marks : length (v .marks) ≡ m
+
+pub view-yes : (n m : ℕ) (v : View) → ViewOf n m v → viewSized n m v ≡ true
+unfolding viewSized
+view-yes n m v h = rw (eq-eqb _ _ (h .samples), eq-eqb _ _ (h .fronts), eq-eqb _ _ (h .limits), eq-eqb _ _ (h .marks))
+
+pub view-facts : (n m : ℕ) (v : View) → viewSized n m v ≡ true → ViewOf n m v
+unfolding viewSized
+view-facts n m v e =
+    let e₁ = and-right (eqb (length (v .samples)) n) _ e in
+    let e₂ = and-right (eqb (length (v .fronts)) n) _ e₁ in
+    record {
+      samples = eqb-true _ _ (and-left (eqb (length (v .samples)) n) _ e);
+      fronts = eqb-true _ _ (and-left (eqb (length (v .fronts)) n) _ e₁);
+      limits = eqb-true _ _ (and-left (eqb (length (v .limits)) n) _ e₂);
+      marks = eqb-true _ _ (and-right (eqb (length (v .limits)) n) _ e₂);
+    }
+
+pub record HeldOf (n m : ℕ) (h : Held) : Type 0 where
+  pub left : ViewOf n m (h .left)
+  pub right : ViewOf n m (h .right)
+  pub combined : length (h .combined) ≡ n
+
+pub held-yes : (n m : ℕ) (h : Held) → HeldOf n m h → heldSized n m h ≡ true
+unfolding heldSized
+held-yes n m h f = rw (view-yes n m (h .left) (f .left), view-yes n m (h .right) (f .right), eq-eqb _ _ (f .combined))
+
+pub held-facts : (n m : ℕ) (h : Held) → heldSized n m h ≡ true → HeldOf n m h
+unfolding heldSized
+held-facts n m h e =
+    let e₁ = and-right (viewSized n m (h .left)) _ e in
+    record {
+      left = view-facts n m (h .left) (and-left (viewSized n m (h .left)) _ e);
+      right = view-facts n m (h .right) (and-left (viewSized n m (h .right)) _ e₁);
+      combined = eqb-true _ _ (and-right (viewSized n m (h .right)) _ e₁);
+    }
+
+-- a table whose entries are at most 1,023
+pub table-most : (t : List ℕ) → tableOk t ≡ true → (i : ℕ) → getD t i 0 ≤ 1023
+unfolding tableOk
+table-most [] e i = omega arith
+table-most (x ∷ xs) e zero = leb-true x 1023 (and-left (leb x 1023) _ e)
+table-most (x ∷ xs) e (suc i) = table-most xs (and-right (leb x 1023) _ e) i
+
+pub table-yes : (t : List ℕ) → ((i : ℕ) → getD t i 0 ≤ 1023) → tableOk t ≡ true
+unfolding tableOk
+table-yes [] h = refl
+table-yes (x ∷ xs) h = and-true _ _ (le-leb x 1023 (h zero)) (table-yes xs (λ i. h (suc i)))
+
+pub record Tables (s : Settings) : Type 0 where
+  pub left : (i : ℕ) → getD (s .left) i 0 ≤ 1023
+  pub right : (i : ℕ) → getD (s .right) i 0 ≤ 1023
+
+pub tables-facts : (s : Settings) → tablesOk s ≡ true → Tables s
+unfolding tablesOk
+tables-facts s e =
+    record { left = table-most (s .left) (and-left (tableOk (s .left)) _ e); right = table-most (s .right) (and-right (tableOk (s .left)) _ e) }
+
+pub tables-yes : (s : Settings) → Tables s → tablesOk s ≡ true
+unfolding tablesOk
+tables-yes s h = and-true _ _ (table-yes (s .left) (h .left)) (table-yes (s .right) (h .right))
+
+pub record Inside (s : Settings) (b : Block) : Type 0 where
+  pub width : 1 ≤ b .width
+  pub right : b .column + b .width ≤ s .w
+  pub height : 1 ≤ b .height
+  pub bottom : b .row + b .height ≤ s .h
+
+pub block-yes : (s : Settings) (b : Block) → Inside s b → blockOk s b ≡ true
+unfolding blockOk
+block-yes s b h =
+    rw (le-leb 1 (b .width) (h .width), le-leb (b .column + b .width) (s .w) (h .right), le-leb 1 (b .height) (h .height), le-leb (b .row + b .height) (s .h) (h .bottom))
+
+pub block-facts : (s : Settings) (b : Block) → blockOk s b ≡ true → Inside s b
+unfolding blockOk
+block-facts s b e =
+    let x = and-left (leb 1 (b .width) && leb (b .column + b .width) (s .w)) _ e in
+    let y = and-right (leb 1 (b .width) && leb (b .column + b .width) (s .w)) (leb 1 (b .height) && leb (b .row + b .height) (s .h)) e in
+    record {
+      width = leb-true _ _ (and-left (leb 1 (b .width)) _ x);
+      right = leb-true _ _ (and-right (leb 1 (b .width)) _ x);
+      height = leb-true _ _ (and-left (leb 1 (b .height)) _ y);
+      bottom = leb-true _ _ (and-right (leb 1 (b .height)) _ y);
+    }
+
+pub area-most : (s : Settings) → Size s → area s ≤ 16777216
+area-most s h = mul-le-mul (h .w .most) (h .h .most)
+
+pub marks-most : (s : Settings) → Size s → markBytes (s .w) * s .h ≤ 2097152
+marks-most s h = let m : markBytes (s .w) ≤ 512 = omega (arith, h .w .most) in mul-le-mul m (h .h .most)
+
+-- ---- what the common tests have shown
+
+pub record Common (s : Settings) (p : Pictures) (d : Depths) (h : Held) : Type 0 where
+  pub size : Size s
+  pub pictures : PicturesOf (area s) p
+  pub depths : DepthsOf (area s) d
+  pub held : HeldOf (area s) (markBytes (s .w) * s .h) h
+  pub tables : Tables s
+  pub share : s .share ≤ 64
+
+pub common-facts : (s : Settings) (p : Pictures) (d : Depths) (h : Held) → commonThen s p d h 0 ≡ 0 → Common s p d h
+unfolding commonThen planesSized
+common-facts s p d h e =
+    let e₁ = unless-rest (sizeOk s) 0 _ e in
+    let e₂ = unless-rest (planesSized s p d h) 1 _ e₁ in
+    let e₃ = unless-rest (tablesOk s) 2 _ e₂ in
+    let z = unless-true (planesSized s p d h) 1 _ e₁ in
+    let y = and-right (picturesSized (area s) p) _ z in
+    record {
+      size = size-facts s (unless-true (sizeOk s) 0 _ e);
+      pictures = pictures-facts (area s) p (and-left (picturesSized (area s) p) _ z);
+      depths = depths-facts (area s) d (and-left (depthsSized (area s) d) _ y);
+      held = held-facts (area s) (markBytes (s .w) * s .h) h (and-right (depthsSized (area s) d) _ y);
+      tables = tables-facts s (unless-true (tablesOk s) 2 _ e₂);
+      share = leb-true (s .share) 64 (unless-true (shareOk s) 3 _ e₃);
+    }
+
+pub common-yes : (s : Settings) (p : Pictures) (d : Depths) (h : Held) (rest : ℕ) → Common s p d h → commonThen s p d h rest ≡ rest
+unfolding commonThen planesSized
+common-yes s p d h rest f =
+    rw (size-yes s (f .size), pictures-yes (area s) p (f .pictures), depths-yes (area s) d (f .depths), held-yes (area s) (markBytes (s .w) * s .h) h (f .held), tables-yes s (f .tables), le-leb (s .share) 64 (f .share))
+
+-- ---- a call's own tests
+
+module _ (s : Settings) (v : ℕ) (b : Block) (n : ℕ) where
+  -- the first that applies wins: 6, then 5, then 7
+  pub view-first : (rest : ℕ) → viewOk v ≡ false → ownThen s v b n rest ≡ 6
+  unfolding ownThen
+  view-first rest e = rw e
+
+  pub block-next : (rest : ℕ) → viewOk v ≡ true → blockOk s b ≡ false → ownThen s v b n rest ≡ 5
+  unfolding ownThen
+  block-next rest e f = rw (e, f)
+
+  pub candidate-last : (rest : ℕ) → viewOk v ≡ true → blockOk s b ≡ true → candidateOk b n ≡ false → ownThen s v b n rest ≡ 7
+  unfolding ownThen
+  candidate-last rest e f g = rw (e, f, g)
+
+-- what a call's own tests have shown
+pub record Own (s : Settings) (v : ℕ) (b : Block) (n : ℕ) : Type 0 where
+  pub view : v ≤ 1
+  pub block : Inside s b
+  pub entries : n ≡ b .width * b .height
+
+pub own-facts : (s : Settings) (v : ℕ) (b : Block) (n : ℕ) → ownThen s v b n 0 ≡ 0 → Own s v b n
+unfolding ownThen
+own-facts s v b n e =
+    let e₁ = unless-rest (viewOk v) 5 _ e in
+    let e₂ = unless-rest (blockOk s b) 4 _ e₁ in
+    record {
+      view = leb-true v 1 (unless-true (viewOk v) 5 _ e);
+      block = block-facts s b (unless-true (blockOk s b) 4 _ e₁);
+      entries = eqb-true n (b .width * b .height) (unless-true (candidateOk b n) 6 0 e₂);
+    }
+
+-- ---- lists of numbers
+
+abbrev four : Bool → Bool → Bool → Bool → ℕ → ℕ
+four x y z t rest = unless x 1 (unless y 2 (unless z 3 (unless t 4 rest)))
+
+four-rest : (x y z t : Bool) (rest : ℕ) → four x y z t 0 ≡ 0 → four x y z t rest ≡ rest
+four-rest true true true true rest e = refl
+four-rest true true true false rest e = absurd (omega arith)
+four-rest true true false t rest e = absurd (omega arith)
+four-rest true false z t rest e = absurd (omega arith)
+four-rest false y z t rest e = absurd (omega arith)
+
+four-stays : (x y z t : Bool) (rest : ℕ) → (four x y z t 0 ≡ 0 → ⊥) → four x y z t rest ≡ four x y z t 0
+four-stays true true true true rest ne = absurd (ne refl)
+four-stays true true true false rest ne = refl
+four-stays true true false t rest ne = refl
+four-stays true false z t rest ne = refl
+four-stays false y z t rest ne = refl
+
+abbrev three : Bool → Bool → Bool → ℕ → ℕ
+three x y z rest = unless x 6 (unless y 5 (unless z 7 rest))
+
+three-rest : (x y z : Bool) (rest : ℕ) → three x y z 0 ≡ 0 → three x y z rest ≡ rest
+three-rest true true true rest e = refl
+three-rest true true false rest e = absurd (omega arith)
+three-rest true false z rest e = absurd (omega arith)
+three-rest false y z rest e = absurd (omega arith)
+
+three-stays : (x y z : Bool) (rest : ℕ) → (three x y z 0 ≡ 0 → ⊥) → three x y z rest ≡ three x y z 0
+three-stays true true true rest ne = absurd (ne refl)
+three-stays true true false rest ne = refl
+three-stays true false z rest ne = refl
+three-stays false y z rest ne = refl
+
+three-usual : (x y z : Bool) → (three x y z 0 ≡ 0) ⊎ ((three x y z 0 ≡ 5) ⊎ ((three x y z 0 ≡ 6) ⊎ (three x y z 0 ≡ 7)))
+three-usual true true true = inl refl
+three-usual true true false = inr (inr (inr refl))
+three-usual true false z = inr (inl refl)
+three-usual false y z = inr (inr (inl refl))
+
+module _ (s : Settings) (v : ℕ) (b : Block) (n : ℕ) where
+  pub own-rest : (rest : ℕ) → ownThen s v b n 0 ≡ 0 → ownThen s v b n rest ≡ rest
+  unfolding ownThen
+  own-rest rest e = three-rest (viewOk v) (blockOk s b) (candidateOk b n) rest e
+
+  pub own-stays : (rest : ℕ) → (ownThen s v b n 0 ≡ 0 → ⊥) → ownThen s v b n rest ≡ ownThen s v b n 0
+  unfolding ownThen
+  own-stays rest ne = three-stays (viewOk v) (blockOk s b) (candidateOk b n) rest ne
+
+  -- a call's own tests answer 0, 5, 6 or 7
+  pub own-usual : (ownThen s v b n 0 ≡ 0) ⊎ ((ownThen s v b n 0 ≡ 5) ⊎ ((ownThen s v b n 0 ≡ 6) ⊎ (ownThen s v b n 0 ≡ 7)))
+  unfolding ownThen
+  own-usual = three-usual (viewOk v) (blockOk s b) (candidateOk b n)
+
+pub own-total : (s : Settings) (t v : ℕ) (b : Block) (n rest : ℕ) → ownThen (withTotal s t) v b n rest ≡ ownThen s v b n rest
+unfolding ownThen blockOk
+own-total s t v b n rest = refl
+
+module _ (s : Settings) (p : Pictures) (d : Depths) (h : Held) where
+  pub common-rest : (rest : ℕ) → commonThen s p d h 0 ≡ 0 → commonThen s p d h rest ≡ rest
+  unfolding commonThen
+  common-rest rest e = four-rest (sizeOk s) (planesSized s p d h) (tablesOk s) (shareOk s) rest e
+
+  pub common-stays : (rest : ℕ) → (commonThen s p d h 0 ≡ 0 → ⊥) → commonThen s p d h rest ≡ commonThen s p d h 0
+  unfolding commonThen
+  common-stays rest ne = four-stays (sizeOk s) (planesSized s p d h) (tablesOk s) (shareOk s) rest ne
+
+  module _ (v : ℕ) (b : Block) (n : ℕ) where
+    -- a call with no early refusal has passed the common tests, and its own
+    pub early-common : earlyNumber s p d h v b n ≡ 0 → commonThen s p d h 0 ≡ 0
+    early-common e =
+        bool-cases (eqb (commonThen s p d h 0) 0) (λ t. eqb-true _ _ t)
+        (λ f. let ne = eqb-false (commonThen s p d h 0) 0 f in sym (common-stays (ownThen s v b n 0) ne) ∙ e)
+
+    pub early-own : earlyNumber s p d h v b n ≡ 0 → ownThen s v b n 0 ≡ 0
+    early-own e = sym (common-rest _ (early-common e)) ∙ e
+
+    -- with no early refusal, 8 decides
+    pub call-late : (x : ℤ) → earlyNumber s p d h v b n ≡ 0 → callNumber s p d h v b n x ≡ unless (inRange s x) 8 0
+    call-late x e = common-rest _ (early-common e) ∙ own-rest s v b n _ (early-own e)
+
+    pub call-early : (x : ℤ) → (earlyNumber s p d h v b n ≡ 0 → ⊥) → callNumber s p d h v b n x ≡ earlyNumber s p d h v b n
+    call-early x ne =
+        bool-cases (eqb (commonThen s p d h 0) 0)
+        (λ t.
+        let z = eqb-true (commonThen s p d h 0) 0 t in
+        let ne′ : ownThen s v b n 0 ≡ 0 → ⊥ = λ q. ne (common-rest _ z ∙ q) in
+        common-rest _ z ∙ own-stays s v b n _ ne′ ∙ sym (common-rest _ z))
+        (λ f. let z = eqb-false (commonThen s p d h 0) 0 f in common-stays _ z ∙ sym (common-stays _ z))
+
+-- ---- 8
+
+-- the old total and the change make the new total
+pub total-change : (old new : ℕ) → pos old +ℤ (pos new -ℤ pos old) ≡ pos new
+total-change old new = +ℤ-comm (pos old) (pos new -ℤ pos old) ∙ -ℤ-+ℤ-cancel (pos new) (pos old)
+
+pub in-range-sound : (s : Settings) (old new : ℕ) → s .total ≡ old → new ≤ 65025 * area s → inRange s (pos new -ℤ pos old) ≡ true
+unfolding inRange
+in-range-sound s old new e le =
+    ap (λ (x : ℤ). within x (65025 * area s)) (ap (λ (t : ℕ). pos t +ℤ (pos new -ℤ pos old)) e ∙ total-change old new)
+    ∙ le-leb new (65025 * area s) le

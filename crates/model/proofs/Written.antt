@@ -1,0 +1,205 @@
+-- A candidate written into a block, by rows.
+--     length-written, written-out      the plane keeps its length, and what lies outside the block
+--     written-at                       what stands at column x of row y
+--     written-row-out, written-row-in  a row outside the block stays; one of the block has the candidate's row in its columns
+--     written-edited                   as a view reads the row, an edit of the block's columns
+--     written-other, written-own       the other view's depths stay
+use Prim.Native.Nat.{ℕ, zero, suc, _+_, _-_, _*_, _/_, _%_, _<_, _≤_}
+use mathlib.Core.Path.{_≡_, refl, sym, ap, subst, _∙_}
+use mathlib.Core.Bool.{Bool, true, false, cond, _&&_, not}
+use mathlib.Core.Logic.{⊎-elim, _⊎_, inl, inr}
+use mathlib.Core.List.{List, [], _∷_, _++_}
+use native.Mathlib.Omega.{arith}
+use native.Mathlib.Nat.{mul-le-mul-right, suc-mul, mul-comm}
+use lib.Arith.{digits-div, digits-mod}
+use lib.Dec.{leb, ltb}
+use lib.ListN.{length, getD, take, drop, length-append, length-take, length-drop, List·getD-append, List·getD-eq-default}
+use lib.Seq.{ext-getD, length-take-le, getD-append-add, getD-take, getD-drop}
+use borrow.Author.Tests.{ltb-true, ltb-false, leb-true, leb-false, lt-ltb, le-ltb, le-leb, lt-leb}
+use Rattle.model.specs.declared.Settings.{Settings}
+use Rattle.model.specs.declared.Block.{Block}
+use Rattle.model.specs.Lists.{listOf, rowOf}
+use Rattle.model.specs.Views.{isRight, seen, entryOf}
+use Rattle.model.specs.Planes.{Depths, depths, depthsOf, withTotal}
+use Rattle.model.specs.Blocks.{inRows, inColumns, inBlock, candidateAt, writtenPlane, written}
+use Rattle.model.specs.Span.{firstColumn}
+use Rattle.model.proofs.Choice.{bool-cases, lt-or-le, and-true}
+use Rattle.model.proofs.Lists.{length-listOf, getD-listOf, length-row, length-plane-row, getD-row, row-ext, rows-apart, entry-fits}
+use Rattle.model.proofs.Views.{length-seen, getD-seen}
+use Rattle.model.proofs.Spans.{EditedRow}
+
+pub written-total : (s : Settings) (t v : ℕ) (b : Block) (c : List ℕ) (d : Depths) → written (withTotal s t) v b c d ≡ written s v b c d
+unfolding written
+written-total s t v b c d = refl
+
+module _ (w : ℕ) (b : Block) (c plane : List ℕ) where
+  pub length-written : length (writtenPlane w b c plane) ≡ length plane
+  unfolding writtenPlane
+  length-written = length-listOf _ (length plane)
+
+  entry : (i : ℕ) → i < length plane → getD (writtenPlane w b c plane) i 0 ≡ cond (inBlock w b i) (candidateAt w b c i) (getD plane i 0)
+  unfolding writtenPlane
+  entry i h = getD-listOf 0 (λ j. cond (inBlock w b j) (candidateAt w b c j) (getD plane j 0)) (length plane) i h
+
+  pub written-out : (i : ℕ) → inBlock w b i ≡ false → getD (writtenPlane w b c plane) i 0 ≡ getD plane i 0
+  written-out i e =
+      ⊎-elim (λ h. entry i h ∙ rw e)
+      (λ h. List·getD-eq-default (writtenPlane w b c plane) 0 (rw length-written h) ∙ sym (List·getD-eq-default plane 0 h))
+      (lt-or-le i (length plane))
+
+  -- what stands at column x of row y
+  pub written-at : (y x : ℕ) → x < w → y * w + x < length plane → getD (writtenPlane w b c plane) (y * w + x) 0 ≡ cond (inRows b y && inColumns b x) (getD c ((y - b .row) * b .width + (x - b .column)) 0) (getD plane (y * w + x) 0)
+  unfolding inBlock
+  written-at y x h k = entry (y * w + x) k ∙ rw (digits-div y h, digits-mod y h)
+
+  pub written-row-out : (y : ℕ) → y * w + w ≤ length plane → inRows b y ≡ false → rowOf (writtenPlane w b c plane) w y ≡ rowOf plane w y
+  written-row-out y h e =
+      row-ext 0 (writtenPlane w b c plane) plane w y length-written (λ x k. written-at y x k (omega arith) ∙ rw e)
+
+-- the tests of a block's rows and columns
+pub rows-yes : (b : Block) (y : ℕ) → b .row ≤ y → y < b .row + b .height → inRows b y ≡ true
+rows-yes b y h k = and-true _ _ (le-leb (b .row) y h) (lt-ltb y (b .row + b .height) k)
+
+pub rows-under : (b : Block) (y : ℕ) → y < b .row → inRows b y ≡ false
+rows-under b y h = rw (lt-leb (b .row) y h)
+
+pub rows-beyond : (b : Block) (y : ℕ) → b .row + b .height ≤ y → inRows b y ≡ false
+rows-beyond b y h = bool-cases (leb (b .row) y) (λ e. rw (e, le-ltb y (b .row + b .height) h)) (λ e. rw e)
+
+columns-yes : (b : Block) (x : ℕ) → b .column ≤ x → x < b .column + b .width → inColumns b x ≡ true
+columns-yes b x h k = and-true _ _ (le-leb (b .column) x h) (lt-ltb x (b .column + b .width) k)
+
+columns-no : (b : Block) (x : ℕ) → (x < b .column) ⊎ (b .column + b .width ≤ x) → inColumns b x ≡ false
+columns-no b x (inl h) = rw (lt-leb (b .column) x h)
+columns-no b x (inr h) = bool-cases (leb (b .column) x) (λ e. rw (e, le-ltb x (b .column + b .width) h)) (λ e. rw e)
+
+and-no : (a b : Bool) → b ≡ false → (a && b) ≡ false
+and-no true b h = h
+and-no false b h = refl
+
+-- a candidate's row lies within the candidate
+pub candidate-fits : (b : Block) (c : List ℕ) (y : ℕ) → length c ≡ b .width * b .height → b .row ≤ y → y < b .row + b .height → (y - b .row) * b .width + b .width ≤ length c
+candidate-fits b c y e h k = omega (arith, rows-apart (b .width) (y - b .row) (b .height) (omega arith), mul-comm (b .height) (b .width))
+
+module _ (w : ℕ) (b : Block) (c plane : List ℕ) (y : ℕ) (fits : y * w + w ≤ length plane) (inside : b .column + b .width ≤ w) where
+  -- a column outside the block's
+  pub written-beside : (x : ℕ) → x < w → (x < b .column) ⊎ (b .column + b .width ≤ x) → getD (rowOf (writtenPlane w b c plane) w y) x 0 ≡ getD (rowOf plane w y) x 0
+  written-beside x h o =
+      getD-row 0 (writtenPlane w b c plane) w y x h ∙ written-at w b c plane y x h (omega arith)
+      ∙ rw (and-no (inRows b y) (inColumns b x) (columns-no b x o)) (sym (getD-row 0 plane w y x h))
+
+  -- a column of the block's
+  pub written-inside : (x : ℕ) → b .row ≤ y → y < b .row + b .height → b .column ≤ x → x < b .column + b .width → getD (rowOf (writtenPlane w b c plane) w y) x 0 ≡ getD c ((y - b .row) * b .width + (x - b .column)) 0
+  written-inside x h k g l =
+      let xw : x < w = omega arith in
+      getD-row 0 (writtenPlane w b c plane) w y x xw ∙ written-at w b c plane y x xw (omega arith)
+      ∙ rw (rows-yes b y h k, columns-yes b x g l)
+
+  wide : length (rowOf plane w y) ≡ w
+  wide = length-row plane w y fits
+
+  wide-after : length (rowOf (writtenPlane w b c plane) w y) ≡ w
+  wide-after = length-row (writtenPlane w b c plane) w y (rw (length-written w b c plane) fits)
+
+  -- the block's columns hold the candidate's row
+  pub written-row-in : length c ≡ b .width * b .height → b .row ≤ y → y < b .row + b .height → rowOf (writtenPlane w b c plane) w y ≡ take (b .column) (rowOf plane w y) ++ (rowOf c (b .width) (y - b .row) ++ drop (b .width) (drop (b .column) (rowOf plane w y)))
+  written-row-in e h k =
+      let r : List ℕ = rowOf plane w y in
+      let m : List ℕ = rowOf c (b .width) (y - b .row) in
+      let n : length (take (b .column) r) ≡ b .column = length-take-le (b .column) r (rw wide (omega arith)) in
+      let l : length m ≡ b .width = length-row c (b .width) (y - b .row) (candidate-fits b c y e h k) in
+      let t : length (drop (b .width) (drop (b .column) r)) ≡ w - b .column - b .width =
+      length-drop (b .width) (drop (b .column) r) ∙ ap (λ (i : ℕ). i - b .width) (length-drop (b .column) r ∙ ap (λ (i : ℕ). i - b .column) wide) in
+      let all : length (take (b .column) r ++ (m ++ drop (b .width) (drop (b .column) r))) ≡ w =
+      length-append (take (b .column) r) (m ++ drop (b .width) (drop (b .column) r)) ∙ omega (arith, n, l, t, length-append m (drop (b .width) (drop (b .column) r))) in
+      ext-getD 0 (rowOf (writtenPlane w b c plane) w y) (take (b .column) r ++ (m ++ drop (b .width) (drop (b .column) r))) (wide-after ∙ sym all)
+      (λ x i.
+      let xw : x < w = omega (arith, wide-after) in
+      ⊎-elim
+      (λ u.
+      written-beside x xw (inl u)
+      ∙ sym (List·getD-append (take (b .column) r) (m ++ drop (b .width) (drop (b .column) r)) 0 x (omega arith) ∙ getD-take (b .column) r x 0 u))
+      (λ u. ⊎-elim
+      (λ v.
+      let q : x ≡ length (take (b .column) r) + (x - b .column) = omega arith in
+      written-inside x h k u v
+      ∙ sym (ap (λ (j : ℕ). getD (take (b .column) r ++ (m ++ drop (b .width) (drop (b .column) r))) j 0) q
+      ∙ getD-append-add (take (b .column) r) (m ++ drop (b .width) (drop (b .column) r)) (x - b .column) 0
+      ∙ List·getD-append m (drop (b .width) (drop (b .column) r)) 0 (x - b .column) (omega arith)
+      ∙ getD-row 0 c (b .width) (y - b .row) (x - b .column) (omega arith)))
+      (λ v.
+      let j : ℕ = x - b .column - b .width in
+      let q : x ≡ length (take (b .column) r) + (length m + j) = omega arith in
+      let z : b .column + (b .width + j) ≡ x = omega arith in
+      written-beside x xw (inr v)
+      ∙ sym (ap (λ (i : ℕ). getD (take (b .column) r ++ (m ++ drop (b .width) (drop (b .column) r))) i 0) q
+      ∙ getD-append-add (take (b .column) r) (m ++ drop (b .width) (drop (b .column) r)) (length m + j) 0
+      ∙ getD-append-add m (drop (b .width) (drop (b .column) r)) j 0
+      ∙ getD-drop (b .width) (drop (b .column) r) j 0 ∙ getD-drop (b .column) r (b .width + j) 0
+      ∙ ap (λ (i : ℕ). getD r i 0) z))
+      (lt-or-le x (b .column + b .width)))
+      (lt-or-le x (b .column)))
+
+  pub first-fits : (r : Bool) → firstColumn r w (b .column) (b .width) + b .width ≤ w
+  unfolding firstColumn
+  first-fits true = omega arith
+  first-fits false = omega arith
+
+  under-beside : (r : Bool) (x : ℕ) → x < firstColumn r w (b .column) (b .width) → (entryOf r w x < b .column) ⊎ (b .column + b .width ≤ entryOf r w x)
+  unfolding firstColumn entryOf
+  under-beside true x h = inr (omega arith)
+  under-beside false x h = inl h
+
+  beyond-beside : (r : Bool) (x : ℕ) → x < w → firstColumn r w (b .column) (b .width) + b .width ≤ x → (entryOf r w x < b .column) ⊎ (b .column + b .width ≤ entryOf r w x)
+  unfolding firstColumn entryOf
+  beyond-beside true x l h = inl (omega arith)
+  beyond-beside false x l h = inr h
+
+  entry-in : (r : Bool) (x : ℕ) → x < w → entryOf r w x < w
+  unfolding entryOf
+  entry-in true x h = omega arith
+  entry-in false x h = h
+
+  -- as a view reads the row, only the block's columns may differ
+  pub written-edited : (r : Bool) → 1 ≤ b .width → EditedRow (seen r (rowOf plane w y)) (seen r (rowOf (writtenPlane w b c plane) w y)) (firstColumn r w (b .column) (b .width)) (firstColumn r w (b .column) (b .width) + b .width - 1)
+  written-edited r some =
+      record {
+        same = la ∙ sym lb;
+        order = omega arith;
+        within = omega (arith, lb, first-fits r);
+        under = λ x h. agree x (omega (arith, first-fits r)) (under-beside r x h);
+        beyond = λ x h. ⊎-elim (λ l. agree x l (beyond-beside r x l (omega arith)))
+            (λ l. List·getD-eq-default (seen r (rowOf (writtenPlane w b c plane) w y)) 0 (omega (arith, la)) ∙ sym (List·getD-eq-default (seen r (rowOf plane w y)) 0 (omega (arith, lb)))) (lt-or-le x w);
+      }
+    where
+      la : length (seen r (rowOf (writtenPlane w b c plane) w y)) ≡ w
+      la = length-seen r (rowOf (writtenPlane w b c plane) w y) ∙ wide-after
+
+      lb : length (seen r (rowOf plane w y)) ≡ w
+      lb = length-seen r (rowOf plane w y) ∙ wide
+
+      agree : (x : ℕ) → x < w → (entryOf r w x < b .column) ⊎ (b .column + b .width ≤ entryOf r w x) → getD (seen r (rowOf (writtenPlane w b c plane) w y)) x 0 ≡ getD (seen r (rowOf plane w y)) x 0
+      agree x l o =
+          getD-seen 0 r (rowOf (writtenPlane w b c plane) w y) x (omega (arith, wide-after))
+          ∙ ap (λ (n : ℕ). getD (rowOf (writtenPlane w b c plane) w y) (entryOf r n x) 0) wide-after
+          ∙ written-beside (entryOf r w x) (entry-in r x l) o
+          ∙ sym (getD-seen 0 r (rowOf plane w y) x (omega (arith, wide)) ∙ ap (λ (n : ℕ). getD (rowOf plane w y) (entryOf r n x) 0) wide)
+
+-- ---- both views' depths
+
+module _ (s : Settings) (v : ℕ) (b : Block) (c : List ℕ) (d : Depths) where
+  pub written-own : depthsOf (written s v b c d) (isRight v) ≡ writtenPlane (s .w) b c (depthsOf d (isRight v))
+  unfolding written
+  written-own = bool-cases (isRight v) (λ e. rw e) (λ e. rw e)
+
+  pub written-other : depthsOf (written s v b c d) (not (isRight v)) ≡ depthsOf d (not (isRight v))
+  unfolding written
+  written-other = bool-cases (isRight v) (λ e. rw e) (λ e. rw e)
+
+  pub written-left : length (written s v b c d .left) ≡ length (d .left)
+  unfolding written
+  written-left = bool-cases (isRight v) (λ e. rw e) (λ e. rw e (length-written (s .w) b c (d .left)))
+
+  pub written-right : length (written s v b c d .right) ≡ length (d .right)
+  unfolding written
+  written-right = bool-cases (isRight v) (λ e. rw e (length-written (s .w) b c (d .right))) (λ e. rw e)

@@ -1,0 +1,2 @@
+-- Term 3 of document 01.
+pub mod Run

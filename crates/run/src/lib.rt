@@ -1,0 +1,1 @@
+// The theorem of a run: no code.
