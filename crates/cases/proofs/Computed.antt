@@ -1,25 +1,24 @@
 -- The definitions that the small rows do not reach compute too: packed marks, hole counts, spans, refusals and CHECK's report,
 -- on the session of document 01 (4 × 1, depths 0).
-use Prim.Native.Nat.{ℕ, _+_}
+use Prim.Native.Nat.{ℕ}
 use mathlib.Core.Path.{_≡_, refl}
-use mathlib.Core.Bool.{Bool, true, false}
+use mathlib.Core.Bool.{true, false}
 use mathlib.Core.List.{List, [], _∷_}
-use lib.IntN.{ℤ, pos}
+use lib.IntN.{pos}
 use Rattle.model.specs.declared.Settings.{Settings}
 use Rattle.model.specs.declared.Block.{Block}
 use Rattle.model.specs.declared.Report.{Report}
 use Rattle.model.specs.declared.Report.the-variants.{Sound, Difference, Total}
 use Rattle.model.specs.Lists.{listOf, listFrom, rows, rowOf, sumTo}
-use Rattle.model.specs.Row.{line, place, least, limit, owner, kindOf, stepOf, mixed, smoothPixel, tornPixel, lastPixel, pairPixel, ownedPixel, pixelAt, limitAt, leftRow}
+use Rattle.model.specs.Row.{place, least, limit, owner, kindOf, stepOf, mixed, smoothPixel, tornPixel, lastPixel, pairPixel, ownedPixel, pixelAt, limitAt, leftRow}
 use Rattle.model.specs.Views.{seen, viewRow, entryOf}
 use Rattle.model.specs.Marks.{packByte, packRow, rowHoles, holesIn}
 use Rattle.model.specs.Combined.{shared, bothShown, bothHoles, combinedOf, squareError}
-use Rattle.model.specs.Planes.{Depths, View, Held, depths, view, held, withTotal}
-use Rattle.model.specs.Fresh.{freshRow, stripOf, freshView, freshSample, freshCombined, fresh, totalOf, freshTotal}
-use Rattle.model.specs.Blocks.{inBlock, writtenPlane, written, changeOf}
+use Rattle.model.specs.Planes.{Depths, View, depths, view, held, withTotal}
+use Rattle.model.specs.Fresh.{freshRow, freshView, freshSample, freshCombined, fresh, totalOf, freshTotal}
 use Rattle.model.specs.Span.{spanLow, spanHigh, inSpan, firstColumn, placesOf, spanHas, limitMoves}
 use Rattle.model.specs.Reports.{sameMark, sameView, sameAt, firstBad, firstDifference, reportOf}
-use Rattle.model.specs.Refusals.{sideOk, sizeOk, picturesSized, depthsSized, viewSized, heldSized, planesSized, tableOk, tablesOk, blockOk, inRange, commonThen, ownThen, stripSized, renderNumber, holesNumber, openNumber, callNumber}
+use Rattle.model.specs.Refusals.{blockOk, ownThen}
 use Rattle.cases.specs.Cases.{identity, four, settings, opening, images}
 
 abbrev block : ℕ → ℕ → ℕ → ℕ → Block

@@ -1,7 +1,7 @@
 -- Document 01, "Small rows and sessions": cases a to m, in one table.
 use Prim.Native.Nat.{ℕ}
 use Prim.Native.String.{String}
-use mathlib.Core.Bool.{Bool, true, false, cond, _&&_}
+use mathlib.Core.Bool.{Bool, true, false, _&&_}
 use mathlib.Core.List.{List, [], _∷_}
 use lib.Dec.{eqb}
 use lib.IntN.{ℤ, pos, negsuc}
@@ -12,9 +12,9 @@ use Rattle.model.specs.Lists.{listOf}
 use Rattle.model.specs.Row.{line, pixel}
 use Rattle.model.specs.Views.{viewRow}
 use Rattle.model.specs.Combined.{combinedOf}
-use Rattle.model.specs.Planes.{Pictures, Depths, State, pictures, depths}
+use Rattle.model.specs.Planes.{Pictures, Depths, pictures, depths}
 use Rattle.model.specs.Fresh.{freshTotal}
-use Rattle.run.specs.Run.{Call, Event, plainNext, plainReply, plainEnd}
+use Rattle.run.specs.Run.{Call, plainNext, plainReply}
 use Rattle.run.specs.Run.Call.{get, set}
 
 -- a call of a session and the change that it has to answer

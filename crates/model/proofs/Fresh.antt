@@ -3,29 +3,29 @@
 --     length-fresh-.., row-fresh-..                 its planes have their lengths, and the drawn rows for rows
 --     flag-pixel, flags-view                        marks are 0 or 1
 --     held-pixel                                    what the fresh planes hold at a position is what the row shows there
-use Prim.Native.Nat.{ℕ, zero, suc, _+_, _-_, _*_, _<_, _≤_}
-use mathlib.Core.Path.{_≡_, refl, sym, ap, _∙_}
-use mathlib.Core.Bool.{Bool, true, false, cond}
+use Prim.Native.Nat.{ℕ, _+_, _-_, _*_, _<_}
+use mathlib.Core.Path.{_≡_, refl, ap, _∙_}
+use mathlib.Core.Bool.{Bool, true, false}
 use mathlib.Core.Logic.{⊎-elim}
 use mathlib.Core.List.{List}
 use native.Mathlib.Omega.{arith}
 use native.Mathlib.Nat.{mul-comm}
 use lib.Dec.{leb}
 use lib.ListN.{length, getD, List·getD-eq-default}
-use lib.IntN.{ℤ, pos, subℕ}
+use lib.IntN.{subℕ}
 use Rattle.model.specs.declared.Settings.{Settings}
 use Rattle.model.specs.declared.Kind.{Kind}
 use Rattle.model.specs.declared.Kind.the-variants.{Hidden, Smooth, Torn}
 use Rattle.model.specs.declared.Pixel.{Pixel}
-use Rattle.model.specs.Lists.{listOf, rows, rowOf}
-use Rattle.model.specs.Row.{Line, line, width, Row, pixel, placeIn, kindOf, owner, quarter, byKind, pixelAt, ownedPixel, pairPixel, smoothPixel, tornPixel, lastPixel}
-use Rattle.model.specs.Views.{viewRow, entryOf, seen}
+use Rattle.model.specs.Lists.{listOf, rowOf}
+use Rattle.model.specs.Row.{Line, width, placeIn, kindOf, owner, quarter, byKind, pixelAt, ownedPixel, pairPixel, smoothPixel, tornPixel, lastPixel}
+use Rattle.model.specs.Views.{viewRow, entryOf}
 use Rattle.model.specs.Marks.{markBytes, packRow, markAt}
-use Rattle.model.specs.Planes.{Pictures, Depths, View, Held, area, withTotal, textureOf, depthsOf, viewOf}
-use Rattle.model.specs.Fresh.{lineOf, freshRow, freshView, shownAt, freshSample, freshCombined, fresh, totalOf, freshTotal}
+use Rattle.model.specs.Planes.{Pictures, Depths, area, withTotal, depthsOf, viewOf}
+use Rattle.model.specs.Fresh.{lineOf, freshRow, freshView, freshSample, freshCombined, fresh, freshTotal}
 use Rattle.model.proofs.Choice.{bool-cases, lt-or-le}
-use Rattle.model.proofs.Lists.{length-listOf, getD-listOf, length-rows, row-rows, length-plane-row}
-use Rattle.model.proofs.Views.{seenLine, length-view-samples, length-view-marks, length-view-fronts, length-view-limits, getD-view-marks, entry-within}
+use Rattle.model.proofs.Lists.{length-listOf, length-rows, row-rows, length-plane-row}
+use Rattle.model.proofs.Views.{seenLine, length-view-samples, length-view-marks, length-view-fronts, length-view-limits, getD-view-marks}
 use Rattle.model.proofs.Packing.{Flags, length-packRow, mark-packRow}
 
 -- ---- the total passed in

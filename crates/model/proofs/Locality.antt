@@ -4,34 +4,33 @@
 --     sample-stays              and so does the combined picture
 --     limits-stay               limits change at columns up to b only
 --     change-spans              the change of the total is the change of the spans' sums
-use Prim.Native.Nat.{ℕ, zero, suc, _+_, _-_, _*_, _<_, _≤_}
-use mathlib.Core.Path.{_≡_, refl, sym, ap, subst, _∙_}
+use Prim.Native.Nat.{ℕ, _+_, _-_, _*_, _<_, _≤_}
+use mathlib.Core.Path.{_≡_, sym, ap, subst, _∙_}
 use mathlib.Core.Bool.{Bool, true, false, cond, _&&_, not}
 use mathlib.Core.Logic.{⊎-elim}
 use mathlib.Core.List.{List}
 use native.Mathlib.Omega.{arith}
-use lib.Dec.{ltb, leb}
 use lib.ListN.{length, getD}
-use lib.IntN.{ℤ, pos}
+use lib.IntN.{pos}
 use borrow.Author.Tests.{ltb-false}
 use Rattle.model.specs.declared.Settings.{Settings}
 use Rattle.model.specs.declared.Block.{Block}
 use Rattle.model.specs.declared.Pixel.{Pixel}
 use Rattle.model.specs.Lists.{rowOf, sumTo}
-use Rattle.model.specs.Row.{Line, line, Row, width, place, pixelAt, limitAt, quarter}
+use Rattle.model.specs.Row.{Line, line, Row, width, place, pixelAt, limitAt}
 use Rattle.model.specs.Views.{isRight, viewRow, seen, entryOf}
-use Rattle.model.specs.Combined.{combinedOf, squareError}
+use Rattle.model.specs.Combined.{combinedOf}
 use Rattle.model.specs.Planes.{Pictures, Depths, tableOf, textureOf, depthsOf}
 use Rattle.model.specs.Fresh.{lineOf, freshRow, shownAt, freshSample, freshTotal}
-use Rattle.model.specs.Blocks.{inRows, writtenPlane, written}
+use Rattle.model.specs.Blocks.{inRows, written}
 use Rattle.model.specs.Span.{firstColumn, placesOf, spanHas, limitMoves}
 use Rattle.model.proofs.Choice.{bool-cases, and-false}
-use Rattle.model.proofs.Lists.{length-plane-row, rows-apart}
+use Rattle.model.proofs.Lists.{rows-apart}
 use Rattle.model.proofs.Sums.{sum-same, sum-add}
 use Rattle.model.proofs.Views.{seenLine, length-seen, entry-within, shown-view, getD-view-limits}
-use Rattle.model.proofs.Spans.{EditedRow, Outside, not-in-span, span-pixel, span-limit}
+use Rattle.model.proofs.Spans.{EditedRow, not-in-span, span-pixel, span-limit}
 use Rattle.model.proofs.Fresh.{DepthsSized, depths-length, wide}
-use Rattle.model.proofs.Written.{length-written, written-row-out, written-edited, written-own, written-other, written-left, written-right}
+use Rattle.model.proofs.Written.{written-row-out, written-edited, written-own, written-other, written-left, written-right}
 use Rattle.model.proofs.Totals.{errorAt, total-rows}
 
 -- a block with columns, inside the picture's

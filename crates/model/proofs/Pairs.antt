@@ -1,21 +1,18 @@
 -- The kinds of a pair.
 --     hidden-owns-nothing    a pair of gap 0 or less owns nothing
 --     torn-far               a torn gap is filled from its far side: the column with the smaller disparity
-use Prim.Native.Nat.{ℕ, suc, _+_, _-_, _*_, _<_, _≤_}
-use mathlib.Core.Path.{_≡_, refl, sym, ap, _∙_}
-use mathlib.Core.Bool.{Bool, true, false, cond}
-use mathlib.Core.Logic.{⊎-elim, _⊎_, inl, inr}
-use mathlib.Core.List.{List}
+use Prim.Native.Nat.{ℕ, _+_, _-_, _<_, _≤_}
+use mathlib.Core.Path.{_≡_}
+use mathlib.Core.Bool.{true, false}
+use mathlib.Core.Logic.{⊎-elim}
 use native.Mathlib.Omega.{arith}
-use lib.Dec.{leb, ltb}
+use lib.Dec.{ltb}
 use lib.ListN.{getD}
-use lib.IntN.{ℤ, pos, negsuc, subℕ}
-use lib.Signed.{ltZ}
+use lib.IntN.{subℕ}
 use borrow.Author.Tests.{lt-ltb, le-ltb, lt-leb}
-use Rattle.model.specs.declared.Kind.{Kind}
 use Rattle.model.specs.declared.Kind.the-variants.{Hidden, Smooth, Torn}
 use Rattle.model.specs.declared.Pixel.{Pixel}
-use Rattle.model.specs.Row.{Line, width, placeIn, place, quarter, kindOf, plain, pairPixel, tornPixel}
+use Rattle.model.specs.Row.{Line, placeIn, place, kindOf, plain, pairPixel, tornPixel}
 use Rattle.model.proofs.Choice.{lt-or-le}
 use Rattle.model.proofs.Owners.{Owns}
 

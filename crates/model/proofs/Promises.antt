@@ -2,8 +2,7 @@
 --     call-zero      an accepted call passed every test before 8
 --     set-sound      an accepted SET keeps the session sound
 use Prim.Native.Nat.{ℕ}
-use mathlib.Core.Path.{_≡_, refl, ap, sym, _∙_}
-use mathlib.Core.Bool.{Bool, true, false}
+use mathlib.Core.Path.{_≡_, ap, sym, _∙_}
 use mathlib.Core.List.{List}
 use lib.Dec.{eqb}
 use lib.IntN.{ℤ, pos, _+ℤ_, _-ℤ_, natAbs}
@@ -13,7 +12,7 @@ use Rattle.model.specs.declared.Settings.{Settings}
 use Rattle.model.specs.declared.Block.{Block}
 use Rattle.model.specs.declared.Edited.{Edited}
 use Rattle.model.specs.Planes.{Pictures, Depths, Held, withTotal}
-use Rattle.model.specs.Fresh.{fresh, freshTotal}
+use Rattle.model.specs.Fresh.{freshTotal}
 use Rattle.model.specs.Blocks.{written, changeOf}
 use Rattle.model.specs.Refusals.{numberOf, earlyNumber, callNumber}
 use Rattle.model.specs.Promises.{Sound, SetPost}

@@ -4,22 +4,22 @@
 --     call-late, call-early               8 decides exactly where nothing before it does
 --     view-first, block-next, ..          the first that applies wins
 --     in-range-sound                      in a sound session 8 never applies
-use Prim.Native.Nat.{ℕ, zero, suc, _+_, _-_, _*_, _/_, _≤_, _<_}
+use Prim.Native.Nat.{ℕ, zero, suc, _+_, _*_, _≤_}
 use mathlib.Core.Path.{_≡_, refl, ap, sym, _∙_}
 use mathlib.Core.Bool.{Bool, true, false, _&&_}
 use mathlib.Core.List.{List, [], _∷_}
-use mathlib.Core.Logic.{_⊎_, inl, inr, ⊎-elim}
+use mathlib.Core.Logic.{_⊎_, inl, inr}
 use native.Mathlib.Omega.{arith}
-use native.Mathlib.Nat.{mul-le-mul, not-suc-le-zero}
+use native.Mathlib.Nat.{mul-le-mul}
 use lib.ListN.{length, getD}
 use lib.Dec.{leb, eqb}
-use lib.IntN.{ℤ, pos, negsuc, subℕ, _+ℤ_, _-ℤ_, +ℤ-comm, -ℤ-+ℤ-cancel}
+use lib.IntN.{ℤ, pos, _+ℤ_, _-ℤ_, +ℤ-comm, -ℤ-+ℤ-cancel}
 use borrow.Author.Tests.{le-leb, leb-true, eq-eqb, eqb-true, eqb-false}
 use Rattle.model.specs.declared.Settings.{Settings}
 use Rattle.model.specs.declared.Block.{Block}
 use Rattle.model.specs.Marks.{markBytes}
-use Rattle.model.specs.Planes.{Pictures, Depths, View, Held, Strip, area, withTotal}
-use Rattle.model.specs.Refusals.{unless, sideOk, sizeOk, picturesSized, depthsSized, viewSized, heldSized, planesSized, tableOk, tablesOk, shareOk, blockOk, viewOk, candidateOk, within, inRange, commonThen, ownThen, openNumber, earlyNumber, callNumber}
+use Rattle.model.specs.Planes.{Pictures, Depths, View, Held, area, withTotal}
+use Rattle.model.specs.Refusals.{unless, sideOk, sizeOk, picturesSized, depthsSized, viewSized, heldSized, planesSized, tableOk, tablesOk, shareOk, blockOk, viewOk, candidateOk, within, inRange, commonThen, ownThen, earlyNumber, callNumber}
 use Rattle.model.proofs.Choice.{bool-cases, and-true, and-left, and-right}
 use Rattle.model.proofs.Fresh.{DepthsOf}
 

@@ -2,8 +2,8 @@
 --     first-..                 the first place that fails a test
 --     report-means             sound: every held entry and the total are the drawing's; a difference: the first by rows; total: only that
 use Prim.Native.Nat.{ℕ, zero, suc, _+_, _-_, _*_, _/_, _%_, _<_, _≤_}
-use mathlib.Core.Path.{_≡_, refl, sym, ap, subst, _∙_}
-use mathlib.Core.Bool.{Bool, true, false, cond}
+use mathlib.Core.Path.{_≡_, sym, subst}
+use mathlib.Core.Bool.{Bool, true, false}
 use mathlib.Core.Logic.{⊎-elim}
 use native.Mathlib.Omega.{arith}
 use native.Mathlib.Nat.{add-zero, add-suc, not-suc-le-zero, eq-or-lt-of-le, le-of-suc-le-suc, mod-lt, div-lt-iff-lt-mul, div-add-mod', mul-comm}
@@ -16,8 +16,7 @@ use Rattle.model.specs.declared.Report.the-variants.{Refused, Sound, Dif
 use Rattle.model.specs.Planes.{Pictures, Depths, Held, area}
 use Rattle.model.specs.Fresh.{fresh, freshTotal}
 use Rattle.model.specs.Reports.{sameAt, firstBad, firstDifference, reportOf}
-use Rattle.model.proofs.Choice.{bool-cases, lt-or-le}
-use Rattle.model.proofs.Lists.{entry-fits}
+use Rattle.model.proofs.Choice.{bool-cases}
 
 -- ---- the first place that fails a test
 

@@ -3,18 +3,16 @@
 --     outside-owns     the owner of a position outside the span, after the edit
 --     span-pixel       so the position shows the same
 --     span-limit       and the limits beyond b stay
-use Prim.Native.Nat.{ℕ, zero, suc, _+_, _-_, _*_, _<_, _≤_, min}
-use mathlib.Core.Path.{_≡_, refl, sym, ap, subst, _∙_}
-use mathlib.Core.Bool.{Bool, true, false, cond, _&&_}
+use Prim.Native.Nat.{ℕ, _+_, _-_, _<_, _≤_}
+use mathlib.Core.Path.{_≡_, sym, ap, subst}
+use mathlib.Core.Bool.{false}
 use mathlib.Core.Logic.{⊎-elim, _⊎_, inl, inr}
 use mathlib.Core.List.{List}
 use native.Mathlib.Omega.{arith}
 use lib.Dec.{leb, ltb}
 use lib.ListN.{length, getD}
-use lib.IntN.{ℤ, pos, subℕ}
 use borrow.Author.Tests.{leb-false, ltb-false}
-use Rattle.model.specs.declared.Pixel.{Pixel}
-use Rattle.model.specs.Row.{Line, line, width, place, placeIn, owner, limit, least, quarter, signed, limitAt, pixelAt, ownedPixel, lastPixel, pairPixel, smoothPixel, tornPixel, mixed, plain}
+use Rattle.model.specs.Row.{line, place, owner, limit, least, quarter, signed, limitAt, pixelAt, ownedPixel, lastPixel, pairPixel, smoothPixel, tornPixel}
 use Rattle.model.specs.Span.{spanLow, spanHigh, inSpan}
 use Rattle.model.proofs.Choice.{lt-or-le, and-false}
 use Rattle.model.proofs.Owners.{Owns, owner-owns, owner-is, above-limit, least-above, least-same, place-zero}

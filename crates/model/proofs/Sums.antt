@@ -3,7 +3,7 @@
 --     sum-rows       a sum over a plane is the sum of its rows' sums
 --     sum-change     two sums that agree outside a stretch differ by the stretch
 use Prim.Native.Nat.{ℕ, zero, suc, _+_, _-_, _*_, _<_, _≤_}
-use mathlib.Core.Path.{_≡_, refl, sym, ap, _∙_}
+use mathlib.Core.Path.{_≡_, refl, ap}
 use native.Mathlib.Omega.{arith}
 use native.Mathlib.Nat.{add-zero, add-suc, mul-suc, suc-mul}
 use native.Mathlib.Numerals.{add-one}

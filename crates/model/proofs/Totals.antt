@@ -2,30 +2,29 @@
 --     errorAt, total-rows     the total is the sum over rows and columns of the squared errors
 --     byte-pixel, byte-sample a drawing of byte pictures shows bytes
 --     total-most              so a total is at most 65,025 × w × h
-use Prim.Native.Nat.{ℕ, zero, suc, _+_, _-_, _*_, _/_, _<_, _≤_}
+use Prim.Native.Nat.{ℕ, _+_, _-_, _*_, _/_, _<_, _≤_}
 use mathlib.Core.Path.{_≡_, refl, sym, ap, subst, _∙_}
-use mathlib.Core.Bool.{Bool, true, false, cond}
+use mathlib.Core.Bool.{Bool, true, false}
 use mathlib.Core.Logic.{⊎-elim}
 use mathlib.Core.List.{List}
 use native.Mathlib.Omega.{arith}
 use native.Mathlib.Nat.{mul-comm, mul-le-mul, mul-le-mul-right, mul-assoc, div-lt-iff-lt-mul}
 use lib.Dec.{leb, ltb, eqb}
-use lib.Signed.{ltZ}
 use lib.ListN.{length, getD, drop, length-take, List·getD-eq-default}
-use lib.IntN.{ℤ, pos, subℕ}
-use borrow.Author.Tests.{leb-true, leb-false, lt-ltb, le-ltb}
+use lib.IntN.{subℕ}
+use borrow.Author.Tests.{leb-false, lt-ltb, le-ltb}
 use Rattle.model.specs.declared.Settings.{Settings}
 use Rattle.model.specs.declared.Kind.{Kind}
 use Rattle.model.specs.declared.Kind.the-variants.{Hidden, Smooth, Torn}
 use Rattle.model.specs.declared.Pixel.{Pixel}
-use Rattle.model.specs.Lists.{listOf, rowOf, sumTo}
-use Rattle.model.specs.Row.{Line, line, width, place, placeIn, owner, quarter, kindOf, stepOf, mixed, byKind, plain, pixelAt, ownedPixel, pairPixel, smoothPixel, tornPixel, lastPixel}
-use Rattle.model.specs.Views.{viewRow, seen, entryOf}
+use Rattle.model.specs.Lists.{rowOf, sumTo}
+use Rattle.model.specs.Row.{Line, width, placeIn, owner, quarter, kindOf, stepOf, mixed, byKind, pixelAt, ownedPixel, pairPixel, smoothPixel, tornPixel, lastPixel}
+use Rattle.model.specs.Views.{seen, entryOf}
 use Rattle.model.specs.Combined.{apart, shared, bothShown, bothHoles, combinedOf, squareError}
-use Rattle.model.specs.Planes.{Pictures, Depths, area, textureOf, depthsOf}
+use Rattle.model.specs.Planes.{Pictures, Depths, area, textureOf}
 use Rattle.model.specs.Fresh.{lineOf, freshRow, shownAt, freshSample, freshCombined, totalOf, freshTotal}
 use Rattle.model.proofs.Choice.{bool-cases, lt-or-le}
-use Rattle.model.proofs.Lists.{getD-listOf, getD-row, rows-apart}
+use Rattle.model.proofs.Lists.{getD-listOf, getD-row}
 use Rattle.model.proofs.Sums.{sum-same, sum-rows, sum-most}
 use Rattle.model.proofs.Owners.{Owns, one-owner}
 use Rattle.model.proofs.Views.{seenLine, length-seen, getD-seen, entry-within, shown-view}

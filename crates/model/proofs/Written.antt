@@ -4,27 +4,27 @@
 --     written-row-out, written-row-in  a row outside the block stays; one of the block has the candidate's row in its columns
 --     written-edited                   as a view reads the row, an edit of the block's columns
 --     written-other, written-own       the other view's depths stay
-use Prim.Native.Nat.{ℕ, zero, suc, _+_, _-_, _*_, _/_, _%_, _<_, _≤_}
-use mathlib.Core.Path.{_≡_, refl, sym, ap, subst, _∙_}
+use Prim.Native.Nat.{ℕ, _+_, _-_, _*_, _<_, _≤_}
+use mathlib.Core.Path.{_≡_, refl, sym, ap, _∙_}
 use mathlib.Core.Bool.{Bool, true, false, cond, _&&_, not}
 use mathlib.Core.Logic.{⊎-elim, _⊎_, inl, inr}
-use mathlib.Core.List.{List, [], _∷_, _++_}
+use mathlib.Core.List.{List, _++_}
 use native.Mathlib.Omega.{arith}
-use native.Mathlib.Nat.{mul-le-mul-right, suc-mul, mul-comm}
+use native.Mathlib.Nat.{mul-comm}
 use lib.Arith.{digits-div, digits-mod}
-use lib.Dec.{leb, ltb}
-use lib.ListN.{length, getD, take, drop, length-append, length-take, length-drop, List·getD-append, List·getD-eq-default}
+use lib.Dec.{leb}
+use lib.ListN.{length, getD, take, drop, length-append, length-drop, List·getD-append, List·getD-eq-default}
 use lib.Seq.{ext-getD, length-take-le, getD-append-add, getD-take, getD-drop}
-use borrow.Author.Tests.{ltb-true, ltb-false, leb-true, leb-false, lt-ltb, le-ltb, le-leb, lt-leb}
+use borrow.Author.Tests.{lt-ltb, le-ltb, le-leb, lt-leb}
 use Rattle.model.specs.declared.Settings.{Settings}
 use Rattle.model.specs.declared.Block.{Block}
-use Rattle.model.specs.Lists.{listOf, rowOf}
+use Rattle.model.specs.Lists.{rowOf}
 use Rattle.model.specs.Views.{isRight, seen, entryOf}
-use Rattle.model.specs.Planes.{Depths, depths, depthsOf, withTotal}
+use Rattle.model.specs.Planes.{Depths, depthsOf, withTotal}
 use Rattle.model.specs.Blocks.{inRows, inColumns, inBlock, candidateAt, writtenPlane, written}
 use Rattle.model.specs.Span.{firstColumn}
 use Rattle.model.proofs.Choice.{bool-cases, lt-or-le, and-true}
-use Rattle.model.proofs.Lists.{length-listOf, getD-listOf, length-row, length-plane-row, getD-row, row-ext, rows-apart, entry-fits}
+use Rattle.model.proofs.Lists.{length-listOf, getD-listOf, length-row, getD-row, row-ext, rows-apart}
 use Rattle.model.proofs.Views.{length-seen, getD-seen}
 use Rattle.model.proofs.Spans.{EditedRow}
 

@@ -1,6 +1,6 @@
 -- Document 01, "Combined picture and total".
 use Prim.Native.Nat.{ℕ, _+_, _-_, _*_, _/_}
-use mathlib.Core.Bool.{Bool, true, false, cond}
+use mathlib.Core.Bool.{cond}
 use lib.Dec.{leb, ltb, eqb}
 use Rattle.model.specs.declared.Pixel.{Pixel}
 

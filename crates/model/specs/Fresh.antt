@@ -1,6 +1,6 @@
 -- The fresh drawing of two depth planes: both views with marks and limits, the combined picture and the total
 -- (document 01, "Combined picture and total" and "The plain record of a run").
-use Prim.Native.Nat.{ℕ, _*_}
+use Prim.Native.Nat.{ℕ}
 use mathlib.Core.Bool.{Bool, true, false}
 use mathlib.Core.List.{List}
 use lib.ListN.{getD}

@@ -7,7 +7,6 @@ use lib.ListN.{length}
 use lib.Dec.{leb, eqb}
 use Rattle.model.specs.declared.Settings.{Settings}
 use Rattle.model.specs.declared.Block.{Block}
-use Rattle.model.specs.declared.Refusal as refusals
 use Rattle.model.specs.declared.Refusal.{Refusal}
 use Rattle.model.specs.declared.Refusal.the-variants.{None, Size, Plane, Table, Share, Bounds, View, Candidate, Total}
 use Rattle.model.specs.declared.Report.{Report}

@@ -1,14 +1,14 @@
 -- CHECK (document 01, "Calls and what they turn down"): every held entry against a fresh drawing.
 use Prim.Native.Nat.{ℕ, zero, suc, _+_, _*_, _/_, _%_}
-use mathlib.Core.Bool.{Bool, true, false, cond, _&&_, _||_, not}
+use mathlib.Core.Bool.{Bool, cond, _&&_, _||_}
 use mathlib.Core.List.{List}
-use lib.Dec.{leb, ltb, eqb}
+use lib.Dec.{ltb, eqb}
 use lib.IntN.{ℤ, pos}
 use lib.Signed.{leZ}
 use lib.ListN.{getD}
 use Rattle.model.specs.declared.Settings.{Settings}
 use Rattle.model.specs.declared.Report.{Report}
-use Rattle.model.specs.declared.Report.the-variants.{Refused, Sound, Difference, Total}
+use Rattle.model.specs.declared.Report.the-variants.{Sound, Difference, Total}
 use Rattle.model.specs.Lists.{rowOf}
 use Rattle.model.specs.Marks.{markBytes, markAt, spareBits}
 use Rattle.model.specs.Planes.{Pictures, Depths, View, Held, area}

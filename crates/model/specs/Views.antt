@@ -1,5 +1,5 @@
 -- Document 01, "One row of the left view", its last paragraph: the right view.
-use Prim.Native.Nat.{ℕ, _+_, _-_}
+use Prim.Native.Nat.{ℕ, _-_}
 use mathlib.Core.Bool.{Bool, true, false}
 use mathlib.Core.List.{List, reverse}
 use lib.Dec.{eqb}

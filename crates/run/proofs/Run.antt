@@ -1,13 +1,11 @@
 -- Term 3 from the promises of OPEN, GET and SET alone.
 --     session-run     whatever an accepted OPEN left and each call of the list answered and left by its promise
 --     halts           a run halted after any of its calls is a run
-use Prim.Native.Nat.{ℕ, zero, suc, _+_, _*_, _<_}
+use Prim.Native.Nat.{ℕ, zero, suc}
 use mathlib.Core.Path.{_≡_, refl, ap, sym, _∙_, subst}
-use mathlib.Core.Bool.{Bool, true, false, cond, _&&_, not}
-use mathlib.Core.List.{List, [], _∷_}
-use mathlib.Core.Logic.{_⊎_, ⊎-elim}
-use native.Mathlib.Omega.{arith}
-use lib.ListN.{length, getD, take}
+use mathlib.Core.Bool.{Bool, true}
+use mathlib.Core.List.{List, _∷_}
+use lib.ListN.{length, take}
 use lib.Dec.{eqb}
 use lib.IntN.{ℤ, pos}
 use borrow.Author.Tests.{eq-eqb, ne-eqb, eqb-true, eqb-false}
@@ -19,7 +17,7 @@ use Rattle.model.specs.declared.Edited.{Edited}
 use Rattle.model.specs.Planes.{Pictures, Depths, Held, State, withTotal}
 use Rattle.model.specs.Fresh.{fresh, freshTotal}
 use Rattle.model.specs.Blocks.{written, changeOf}
-use Rattle.model.specs.Refusals.{numberOf, unless, ownThen, openNumber, earlyNumber, callNumber, inRange}
+use Rattle.model.specs.Refusals.{numberOf, unless, ownThen, earlyNumber, callNumber, inRange}
 use Rattle.model.specs.Promises.{Sound, OpenPost, GetPost, SetPost}
 use Rattle.model.proofs.Choice.{bool-cases}
 use Rattle.model.proofs.Fresh.{fresh-total, freshTotal-total}

@@ -2,31 +2,26 @@
 --     ready, ready-common, ready-written     1 to 4 never apply in a run
 --     local-written                          an accepted SET changes no more than document 01 allows
 use Prim.Native.Nat.{ℕ, _+_, _*_, _<_, _≤_}
-use mathlib.Core.Path.{_≡_, refl, ap, sym, _∙_, subst}
-use mathlib.Core.Bool.{Bool, true, false, cond, _&&_, not}
+use mathlib.Core.Path.{_≡_, refl, ap, sym, _∙_}
+use mathlib.Core.Bool.{Bool, true, false}
 use mathlib.Core.List.{List}
-use native.Mathlib.Omega.{arith}
 use lib.ListN.{length, getD}
 use lib.IntN.{ℤ, pos}
 use Rattle.model.specs.declared.Settings.{Settings}
 use Rattle.model.specs.declared.Block.{Block}
-use Rattle.model.specs.declared.Pixel.{Pixel}
-use Rattle.model.specs.Lists.{rowOf, listOf}
-use Rattle.model.specs.Row.{pixel, Row}
 use Rattle.model.specs.Views.{isRight}
-use Rattle.model.specs.Marks.{markBytes, markAt}
-use Rattle.model.specs.Planes.{Pictures, Depths, View, Held, State, area, withTotal, depthsOf, viewOf}
+use Rattle.model.specs.Marks.{markBytes}
+use Rattle.model.specs.Planes.{Pictures, Depths, View, Held, area, withTotal, depthsOf}
 use Rattle.model.specs.Fresh.{freshRow, freshView, shownAt, freshSample, freshCombined, fresh, freshTotal}
-use Rattle.model.specs.Blocks.{inRows, inBlock, writtenPlane, written, changeOf}
-use Rattle.model.specs.Span.{spanHas, limitMoves}
+use Rattle.model.specs.Blocks.{inBlock, written, changeOf}
 use Rattle.model.specs.Refusals.{commonThen, openNumber}
 use Rattle.model.proofs.Choice.{bool-cases}
 use Rattle.model.proofs.Lists.{getD-row, getD-listOf}
-use Rattle.model.proofs.Fresh.{DepthsSized, fresh-total, freshTotal-total, row-fresh-samples, row-fresh-fronts, row-fresh-limits, mark-fresh, row-fresh-combined, length-fresh-samples, length-fresh-fronts, length-fresh-limits, length-fresh-marks, length-fresh-combined, view-fresh}
-use Rattle.model.proofs.Written.{written-total, written-out, written-left, written-right}
-use Rattle.model.proofs.Locality.{Columns, sized-written, other-row, shown-stays, sample-stays, limits-stay}
-use Rattle.model.proofs.Refusals.{Size, PicturesOf, ViewOf, HeldOf, Tables, Common, common-facts, common-yes, own-facts}
-use Rattle.run.specs.Run.{shownIn, inSpans, Local, plainNumber, plainState}
+use Rattle.model.proofs.Fresh.{DepthsSized, freshTotal-total, row-fresh-samples, row-fresh-fronts, row-fresh-limits, mark-fresh, row-fresh-combined, length-fresh-samples, length-fresh-fronts, length-fresh-limits, length-fresh-marks, length-fresh-combined, view-fresh}
+use Rattle.model.proofs.Written.{written-total, written-out}
+use Rattle.model.proofs.Locality.{Columns, sized-written, shown-stays, sample-stays, limits-stay}
+use Rattle.model.proofs.Refusals.{Size, PicturesOf, ViewOf, HeldOf, Tables, common-facts, common-yes, own-facts}
+use Rattle.run.specs.Run.{shownIn, Local, plainNumber}
 
 pub changeOf-total : (s : Settings) (t : ℕ) (p : Pictures) (d : Depths) (v : ℕ) (b : Block) (c : List ℕ) → changeOf (withTotal s t) p d v b c ≡ changeOf s p d v b c
 unfolding changeOf
