@@ -1,0 +1,2 @@
+-- What the two views combine to.
+pub mod Blend

@@ -1,0 +1,180 @@
+-- `draw::draw_plane_row` meets its contract: the parts of row y are drawn and put back.
+use mathlib.Core.Path.{sym, subst, _∙_}
+use mathlib.Core.List.{List}
+use Prim.Native.Nat.{ℕ, _*_}
+use native.Mathlib.Omega.{arith}
+use Rattle.model.proofs.Packing.{Flags}
+use Rattle.model.proofs.Fresh.{flags-view}
+use Rattle.planes.proofs.Splices.{part-length}
+use Rattle.draw.proofs.Planes.{parts-ready, parts-drawn, row-drawn}
+use borrow.Author.Needs.{needs}
+use Rattle.draw.proofs.draw_plane_row.Statement.{statement}
+use Rattle.draw.proofs.draw_plane_row.Tie as tie
+
+mul-from : tie.Need-mul-from
+mul-from c = search needs
+
+add-to : tie.Need-add-to
+add-to c = search needs
+
+sub-draw-row : tie.Need-sub-draw-row
+sub-draw-row c = search needs
+
+part-draw-row-start : tie.Need-part-draw-row-start
+part-draw-row-start c = search needs
+
+part-draw-row-end : tie.Need-part-draw-row-end
+part-draw-row-end c = search needs
+
+sub-draw-row-2 : tie.Need-sub-draw-row-2
+sub-draw-row-2 c = search needs
+
+part-draw-row-start-2 : tie.Need-part-draw-row-start-2
+part-draw-row-start-2 c = search needs
+
+part-draw-row-end-2 : tie.Need-part-draw-row-end-2
+part-draw-row-end-2 c = search needs
+
+sub-draw-row-3 : tie.Need-sub-draw-row-3
+sub-draw-row-3 c = search needs
+
+part-draw-row-start-3 : tie.Need-part-draw-row-start-3
+part-draw-row-start-3 c = search needs
+
+part-draw-row-end-3 : tie.Need-part-draw-row-end-3
+part-draw-row-end-3 c = search needs
+
+sub-draw-row-4 : tie.Need-sub-draw-row-4
+sub-draw-row-4 c = search needs
+
+part-draw-row-start-4 : tie.Need-part-draw-row-start-4
+part-draw-row-start-4 c = search needs
+
+part-draw-row-end-4 : tie.Need-part-draw-row-end-4
+part-draw-row-end-4 c = search needs
+
+mul-draw-row : tie.Need-mul-draw-row
+mul-draw-row c = search needs
+
+sub-draw-row-5 : tie.Need-sub-draw-row-5
+sub-draw-row-5 c = search needs
+
+part-draw-row-start-5 : tie.Need-part-draw-row-start-5
+part-draw-row-start-5 c = search needs
+
+part-draw-row-end-5 : tie.Need-part-draw-row-end-5
+part-draw-row-end-5 c = search needs
+
+draw-row-requires : tie.Need-draw-row-requires
+draw-row-requires c κs =
+    let start = c .before .before .before .before .before .before .before .before .before .before .before .before in
+    let a = start .args in
+    let h = start .pre in
+    let p = h .1 .0 in
+    let l = part-length (a .depths .now) (a .y * a .w) (a .w) (p .depths-in) in
+    (parts-ready (a .table .now) (a .w) (a .y) (a .texture .now) (a .depths .now) _ (h .0 .0) (h .0 .1 .0) (h .0 .1 .1) p,
+    (part-length (a .samples .now) (a .y * a .w) (a .w) (p .samples-in) ∙ sym l,
+    (part-length (a .fronts .now) (a .y * a .w) (a .w) (p .fronts-in) ∙ sym l,
+    (h .1 .1 ∙ sym l, part-length (a .limits .now) (a .y * a .w) (a .w) (p .limits-in) ∙ sym l))))
+
+add-bytes : tie.Need-add-bytes
+add-bytes c =
+    let start = c .before .before .before .before .before .before .before .before .before .before .before .before .before .before .before .before .before .before .before .before in
+    omega (arith, start .pre .0 .1 .1, start .pre .1 .0 .marks-in)
+
+mul-first : tie.Need-mul-first
+mul-first c =
+    let start = c .before .before .before .before .before .before .before .before .before .before .before .before .before .before .before .before .before .before .before .before in
+    omega (arith, start .pre .0 .1 .1, start .pre .1 .0 .marks-in)
+
+add-last : tie.Need-add-last
+add-last c =
+    let start = c .before .before .before .before .before .before .before .before .before .before .before .before .before .before .before .before .before .before .before .before in
+    omega (arith, start .pre .0 .1 .1, start .pre .1 .0 .marks-in)
+
+sub-pack : tie.Need-sub-pack
+sub-pack c = search needs
+
+part-pack-start : tie.Need-part-pack-start
+part-pack-start c = search needs
+
+part-pack-end : tie.Need-part-pack-end
+part-pack-end c = search needs
+
+pack-requires : tie.Need-pack-requires
+pack-requires c κs =
+    let start = c .before .before .before .before .before .before .before .before .before .before .before .before .before .before .before .before .before .before .before .before .before .before in
+    let a = start .args in
+    let h = start .pre in
+    let d = c .before .before .before .before .before .before .before .before .before .draw-row in
+    let l = d .kept .1 .1 .1 .1 .1 .1 .0 ∙ h .1 .1 in
+    ((rw l (part-length (a .marks .now) _ _ (h .1 .0 .marks-in)), rw l (h .0 .1 .1)),
+    subst (λ (ms : List ℕ). Flags ms) (sym (d .ensures .shows .marks-are)) (flags-view (a .right) _))
+
+same-length : tie.Need-same-length
+same-length c = search needs
+
+same-length-2 : tie.Need-same-length-2
+same-length-2 c = search needs
+
+same-length-3 : tie.Need-same-length-3
+same-length-3 c = search needs
+
+same-length-4 : tie.Need-same-length-4
+same-length-4 c = search needs
+
+same-length-5 : tie.Need-same-length-5
+same-length-5 c = search needs
+
+returns : tie.Need-returns
+returns c =
+    let start = c .before .before .before .before .before .before .before .before .before .before .before .before .before .before .before .before .before .before .before .before .before .before .before .before .before in
+    let a = start .args in
+    let h = start .pre in
+    let p = h .1 .0 in
+    let d = c .before .before .before .before .before .before .before .before .before .before .before .before .draw-row in
+    let k = c .before .before .pack in
+    let lf = d .kept .1 .1 .1 .1 .1 .1 .0 ∙ h .1 .1 in
+    row-drawn (a .right) (a .table .now) (a .w) (a .y) (a .texture .now) (a .depths .now) _ _ _ _ _ p
+    (d .kept .1 .1 .1 .1 .0 ∙ part-length (a .samples .now) (a .y * a .w) (a .w) (p .samples-in))
+    (d .kept .1 .1 .1 .1 .1 .0 ∙ part-length (a .fronts .now) (a .y * a .w) (a .w) (p .fronts-in))
+    (d .kept .1 .1 .1 .1 .1 .1 .1 .0 ∙ part-length (a .limits .now) (a .y * a .w) (a .w) (p .limits-in))
+    (k .kept .1 .0 ∙ part-length (a .marks .now) _ _ (p .marks-in))
+    (parts-drawn (a .right) (a .table .now) (a .w) (a .y) (a .texture .now) (a .depths .now) _ _ _ _ _ (d .ensures) lf (k .ensures))
+
+pub draw-plane-row-spec : {M : Type 1} → statement M
+draw-plane-row-spec =
+    tie.close
+    (tie.spec
+    mul-from
+    add-to
+    sub-draw-row
+    part-draw-row-start
+    part-draw-row-end
+    sub-draw-row-2
+    part-draw-row-start-2
+    part-draw-row-end-2
+    sub-draw-row-3
+    part-draw-row-start-3
+    part-draw-row-end-3
+    sub-draw-row-4
+    part-draw-row-start-4
+    part-draw-row-end-4
+    mul-draw-row
+    sub-draw-row-5
+    part-draw-row-start-5
+    part-draw-row-end-5
+    draw-row-requires
+    add-bytes
+    mul-first
+    add-last
+    sub-pack
+    part-pack-start
+    part-pack-end
+    pack-requires
+    same-length
+    same-length-2
+    same-length-3
+    same-length-4
+    same-length-5
+    returns)

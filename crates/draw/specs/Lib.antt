@@ -1,0 +1,3 @@
+-- What is drawn and combined of whole planes.
+pub mod Drawn
+pub mod Combination

@@ -1,0 +1,2 @@
+-- Why HOLES keeps its promise.
+pub mod Ways

@@ -1,0 +1,4 @@
+-- Laws of packed marks, by topic.
+pub mod Bits
+pub mod Puts
+pub mod Counts

@@ -1,0 +1,2 @@
+-- Why OPEN keeps its promise.
+pub mod Opening

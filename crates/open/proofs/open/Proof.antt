@@ -1,0 +1,100 @@
+-- `open::open` keeps OPEN's promise, refused and accepted.
+use mathlib.Core.Path.{_≡_, sym, _∙_}
+use Rattle.model.specs.Planes.{pictures, depths, view, held}
+use Rattle.model.specs.Refusals.{openNumber}
+use Rattle.model.proofs.Refusals.{common-facts, table-yes}
+use Rattle.validate.proofs.Numbers.{common-number}
+use Rattle.open.proofs.Opening.{planes-left, planes-right, common-kept, refused, opened}
+use borrow.Author.Needs.{needs}
+use Rattle.open.proofs.open.Statement.{statement}
+use Rattle.open.proofs.open.Tie as tie
+
+common-requires : tie.Need-common-requires
+common-requires c κs = search needs
+
+number-requires : tie.Need-number-requires
+number-requires c κs = search needs
+
+returns : tie.Need-returns
+returns c =
+    let a = c .before .before .before .before .before .before .before .before .before .before .before .before .before .before .before .before .before .before .before .args in
+    let p = pictures (a .left .now) (a .right .now) (a .reference .now) in
+    let d = depths (a .leftDepths .now) (a .rightDepths .now) in
+    let g = held (view (a .leftSamples .now) (a .leftFronts .now) (a .leftLimits .now) (a .leftMarks .now)) (view (a .rightSamples .now) (a .rightFronts .now) (a .rightLimits .now) (a .rightMarks .now)) (a .combined .now) in
+    refused (a .settings) p d g _ (c .before .before .common .ensures ∙ common-number (a .settings) p d g 0) (λ q. c .if1 .taken (c .before .number .ensures ∙ q))
+
+cast-fill : tie.Need-cast-fill
+cast-fill c = search needs
+
+cast-fill-2 : tie.Need-cast-fill-2
+cast-fill-2 c = search needs
+
+fill-requires : tie.Need-fill-requires
+fill-requires c κs =
+    let a = c .before .before .before .before .before .before .before .before .before .before .before .before .before .before .before .before .before .before .before .before .before .before .before .before .before .before .before .before .before .before .before .before .args in
+    let p = pictures (a .left .now) (a .right .now) (a .reference .now) in
+    let d = depths (a .leftDepths .now) (a .rightDepths .now) in
+    let g = held (view (a .leftSamples .now) (a .leftFronts .now) (a .leftLimits .now) (a .leftMarks .now)) (view (a .rightSamples .now) (a .rightFronts .now) (a .rightLimits .now) (a .rightMarks .now)) (a .combined .now) in
+    let n : openNumber (a .settings) p d g ≡ 0 = sym (c .before .before .before .before .before .before .before .before .before .before .before .before .before .before .before .common .ensures ∙ common-number (a .settings) p d g 0) ∙ (sym (c .before .before .before .before .before .before .before .before .before .before .before .before .before .before .number .ensures) ∙ c .before .before .before .before .before .before .before .before .before .before .before .before .before .if1 .left) in
+    let f = common-facts (a .settings) p d g n in
+    ((table-yes _ (f .tables .left), (table-yes _ (f .tables .right), f .share)),
+    ((f .size .w .some, (f .size .w .most, f .size .h .most)), (planes-left (a .settings) p d g f, (planes-right (a .settings) p d g f, (f .pictures .reference, f .held .combined)))))
+
+same-length : tie.Need-same-length
+same-length c = search needs
+
+same-length-2 : tie.Need-same-length-2
+same-length-2 c = search needs
+
+same-length-3 : tie.Need-same-length-3
+same-length-3 c = search needs
+
+same-length-4 : tie.Need-same-length-4
+same-length-4 c = search needs
+
+same-length-5 : tie.Need-same-length-5
+same-length-5 c = search needs
+
+same-length-6 : tie.Need-same-length-6
+same-length-6 c = search needs
+
+same-length-7 : tie.Need-same-length-7
+same-length-7 c = search needs
+
+same-length-8 : tie.Need-same-length-8
+same-length-8 c = search needs
+
+same-length-9 : tie.Need-same-length-9
+same-length-9 c = search needs
+
+returns-2 : tie.Need-returns-2
+returns-2 c =
+    let a = c .before .before .before .before .before .before .before .before .before .before .before .before .before .before .before .before .before .before .before .before .before .before .before .before .before .before .before .before .before .before .before .before .before .before .before .before .before .before .before .before .before .before .before .before .before .before .before .before .before .args in
+    let p = pictures (a .left .now) (a .right .now) (a .reference .now) in
+    let d = depths (a .leftDepths .now) (a .rightDepths .now) in
+    let g = held (view (a .leftSamples .now) (a .leftFronts .now) (a .leftLimits .now) (a .leftMarks .now)) (view (a .rightSamples .now) (a .rightFronts .now) (a .rightLimits .now) (a .rightMarks .now)) (a .combined .now) in
+    let n : openNumber (a .settings) p d g ≡ 0 = sym (c .before .before .before .before .before .before .before .before .before .before .before .before .before .before .before .before .before .before .before .before .before .before .before .before .before .before .before .before .before .before .before .before .common .ensures ∙ common-number (a .settings) p d g 0) ∙ (sym (c .before .before .before .before .before .before .before .before .before .before .before .before .before .before .before .before .before .before .before .before .before .before .before .before .before .before .before .before .before .before .before .number .ensures) ∙ c .before .before .before .before .before .before .before .before .before .before .before .before .before .before .before .before .before .before .before .before .before .before .before .before .before .before .before .before .before .before .if1 .left) in
+    let f = c .before .before .before .before .before .before .before .before .before .before .before .before .before .before .before .before .fill in
+    let k = f .kept in
+    opened (a .settings) p d g _ _ n (common-kept (a .settings) p d g _ (common-facts (a .settings) p d g n) (k .1 .1 .1 .1 .1 .1 .1 .1 .1 .1 .1 .0) (k .1 .1 .1 .1 .1 .1 .1 .1 .1 .1 .1 .1 .0) (k .1 .1 .1 .1 .1 .1 .1 .1 .1 .1 .1 .1 .1 .0) (k .1 .1 .1 .1 .1 .1 .1 .1 .1 .1 .1 .1 .1 .1 .0) (k .1 .1 .1 .1 .1 .1 .1 .1 .1 .1 .1 .1 .1 .1 .1 .0) (k .1 .1 .1 .1 .1 .1 .1 .1 .1 .1 .1 .1 .1 .1 .1 .1 .0) (k .1 .1 .1 .1 .1 .1 .1 .1 .1 .1 .1 .1 .1 .1 .1 .1 .1 .0) (k .1 .1 .1 .1 .1 .1 .1 .1 .1 .1 .1 .1 .1 .1 .1 .1 .1 .1 .0) (k .1 .1 .1 .1 .1 .1 .1 .1 .1 .1 .1 .1 .1 .1 .1 .1 .1 .1 .1 .0)) (f .ensures)
+
+pub open-spec : {M : Type 1} → statement M
+open-spec =
+    tie.close
+    (tie.spec
+    common-requires
+    number-requires
+    returns
+    cast-fill
+    cast-fill-2
+    fill-requires
+    same-length
+    same-length-2
+    same-length-3
+    same-length-4
+    same-length-5
+    same-length-6
+    same-length-7
+    same-length-8
+    same-length-9
+    returns-2)

@@ -1,0 +1,2 @@
+-- What OPEN leaves.
+pub mod Filled

@@ -1,0 +1,3 @@
+-- Why it holds.
+pub mod Pairs
+pub mod Steps

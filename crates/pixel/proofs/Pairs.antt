@@ -1,0 +1,36 @@
+-- A pair of columns shows what the row shows where the first of them is the owner.
+use Prim.Native.Nat.{ℕ, _+_, _-_, _<_, _≤_}
+use mathlib.Core.Path.{_≡_, refl}
+use mathlib.Core.Logic.{⊎-elim}
+use mathlib.Core.List.{List}
+use lib.ListN.{length}
+use native.Mathlib.Omega.{arith}
+use borrow.Author.Tests.{le-leb, lt-leb}
+use Rattle.model.specs.Row.{Line, width, quarter, place, placeIn, mixed, smoothPixel, tornPixel, lastPixel, pairPixel, ownedPixel}
+use Rattle.model.proofs.Choice.{lt-or-le}
+use Rattle.pixel.specs.Pairs.{nextPlace, pairOf, mixOf, smoothOf, tornOf, lastOf, kindPixel, pixelOf}
+
+pub next-last : (t d : List ℕ) (c : ℕ) → length d ≤ c + 1 → nextPlace t d c ≡ quarter (length d)
+unfolding nextPlace
+next-last t d c h = rw (le-leb (length d) (c + 1) h)
+
+pub next-inner : (t d : List ℕ) (c : ℕ) → c + 1 < length d → nextPlace t d c ≡ place t d (c + 1)
+unfolding nextPlace
+next-inner t d c h = rw (lt-leb (length d) (c + 1) h)
+
+-- a place is at most the position of its column, so the next place lies within the row
+pub place-most : (t d : List ℕ) (c : ℕ) → place t d c ≤ quarter c
+unfolding place
+place-most t d c = omega arith
+
+pub next-most : (t d : List ℕ) (c : ℕ) → nextPlace t d c ≤ quarter (length d)
+next-most t d c =
+    ⊎-elim
+    (λ h. rw (next-inner t d c h) (omega (arith, place-most t d (c + 1))))
+    (λ h. rw (next-last t d c h) (omega arith))
+    (lt-or-le (c + 1) (length d))
+
+pub pair-pixel : (l : Line) (c x : ℕ) → pixelOf (pairOf l c) x ≡ ownedPixel l c x
+unfolding pairOf pixelOf kindPixel smoothOf tornOf lastOf mixOf nextPlace ownedPixel lastPixel pairPixel smoothPixel tornPixel mixed
+pair-pixel l c x =
+    ⊎-elim (λ h. rw (lt-leb (width l) (c + 1) h)) (λ h. rw (le-leb (width l) (c + 1) h)) (lt-or-le (c + 1) (width l))

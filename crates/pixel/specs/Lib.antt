@@ -1,0 +1,2 @@
+-- What a pair of neighbouring columns shows.
+pub mod Pairs

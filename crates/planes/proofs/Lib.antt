@@ -1,0 +1,5 @@
+-- Why it holds: the laws of parts, by topic.
+pub mod Splices
+pub mod Fills
+pub mod Paints
+pub mod SeenParts

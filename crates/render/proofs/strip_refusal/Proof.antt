@@ -1,0 +1,74 @@
+use mathlib.Core.Path.{_≡_, sym, _∙_}
+use mathlib.Core.Bool.{true}
+use borrow.Author.Tests.{not-true, not-false, le-leb, lt-leb}
+use denote.Ref.{now}
+use Rattle.model.specs.Refusals.{sideOk, tableOk}
+use Rattle.model.proofs.Refusals.{side-facts}
+use Rattle.render.specs.Numbers.{stripFits, stripNumber}
+use borrow.Author.Needs.{needs}
+use Rattle.render.proofs.strip_refusal.Statement.{statement}
+use Rattle.render.proofs.strip_refusal.Tie as tie
+
+-- what each test has shown where it passed
+w-ok : (c : tie.Else1) → sideOk (c .before .before .args .w) ≡ true
+w-ok c = sym (c .before .side-ok .ensures) ∙ not-false _ (c .if1 .left)
+
+planes-ok : (c : tie.Else2) → let a = c .before .before .before .before .args in stripFits (a .w) (a .texture) (a .depths) (a .samples) (a .marks) (a .fronts) ≡ true
+planes-ok c = sym (c .before .strip-sized .ensures) ∙ not-false _ (c .if2 .left)
+
+left-ok : (c : tie.Else3) → tableOk (now (c .before .before .before .before .before .before .args .left)) ≡ true
+left-ok c = sym (c .before .table-ok .ensures) ∙ not-false _ (c .if3 .left)
+
+right-ok : (c : tie.Else4) → tableOk (now (c .before .before .before .before .before .before .before .before .args .right)) ≡ true
+right-ok c = sym (c .before .table-ok2 .ensures) ∙ not-false _ (c .if4 .left)
+
+side-ok-requires : tie.Need-side-ok-requires
+side-ok-requires c κs = search needs
+
+returns : tie.Need-returns
+unfolding stripNumber
+returns c = rw (sym (c .before .side-ok .ensures) ∙ not-true _ (c .if1 .taken))
+
+strip-sized-requires : tie.Need-strip-sized-requires
+strip-sized-requires c κs = side-facts _ (w-ok c) .most
+
+returns-2 : tie.Need-returns-2
+unfolding stripNumber
+returns-2 c = rw (w-ok (c .before .before), sym (c .before .strip-sized .ensures) ∙ not-true _ (c .if2 .taken))
+
+table-ok-requires : tie.Need-table-ok-requires
+table-ok-requires c κs = search needs
+
+returns-3 : tie.Need-returns-3
+unfolding stripNumber
+returns-3 c = rw (w-ok (c .before .before .before .before), planes-ok (c .before .before), sym (c .before .table-ok .ensures) ∙ not-true _ (c .if3 .taken))
+
+table-ok-requires-2 : tie.Need-table-ok-requires-2
+table-ok-requires-2 c κs = search needs
+
+returns-4 : tie.Need-returns-4
+unfolding stripNumber
+returns-4 c = rw (w-ok (c .before .before .before .before .before .before), planes-ok (c .before .before .before .before), left-ok (c .before .before), sym (c .before .table-ok2 .ensures) ∙ not-true _ (c .if4 .taken))
+
+returns-5 : tie.Need-returns-5
+unfolding stripNumber
+returns-5 c = rw (w-ok (c .before .before .before .before .before .before .before), planes-ok (c .before .before .before .before .before), left-ok (c .before .before .before), right-ok (c .before), lt-leb _ _ (c .if5 .taken))
+
+returns-6 : tie.Need-returns-6
+unfolding stripNumber
+returns-6 c = rw (w-ok (c .before .before .before .before .before .before .before), planes-ok (c .before .before .before .before .before), left-ok (c .before .before .before), right-ok (c .before), le-leb _ _ (c .if5 .left))
+
+pub strip-refusal-spec : {M : Type 1} → statement M
+strip-refusal-spec =
+    tie.close
+    (tie.spec
+    side-ok-requires
+    returns
+    strip-sized-requires
+    returns-2
+    table-ok-requires
+    returns-3
+    table-ok-requires-2
+    returns-4
+    returns-5
+    returns-6)

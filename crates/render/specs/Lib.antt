@@ -1,0 +1,2 @@
+-- The refusals of RENDER over numbers.
+pub mod Numbers

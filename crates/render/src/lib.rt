@@ -1,0 +1,171 @@
+// RENDER: one row of one view.
+use model::Refusal;
+use model::Settings;
+ghost use mathlib.Core.Path.{_≡_};
+ghost use mathlib.Core.Bool.{true};
+ghost use Prim.Native.Nat.{_≤_};
+ghost use lib.ListN.{length};
+ghost use Rattle.model.specs.Row.{line};
+ghost use Rattle.model.specs.Views.{viewRow};
+ghost use Rattle.model.specs.Marks.{markBytes};
+ghost use Rattle.model.specs.Planes.{strip};
+ghost use Rattle.model.specs.Fresh.{stripOf};
+ghost use Rattle.model.specs.Refusals.{numberOf};
+ghost use Rattle.model.specs.Promises.{RenderPost};
+ghost use Rattle.row.specs.Drawing.{Ready};
+ghost use Rattle.render.specs.Numbers.{stripFits, stripNumber};
+
+// Every plane of a row of w positions has its exact length.
+fn strip_sized(
+    w: usize,
+    texture: usize,
+    depths: usize,
+    samples: usize,
+    marks: usize,
+    fronts: usize,
+) -> bool
+    requires { ⌜ w ≤ 4096 ⌝ }
+    ensures { λ r. ⌜ r ≡ stripFits w texture depths samples marks fronts ⌝ }
+{
+    if texture != w {
+        return false;
+    }
+    if depths != w {
+        return false;
+    }
+    if samples != w {
+        return false;
+    }
+    if marks != (w + 7) / 8 {
+        return false;
+    }
+    fronts == w
+}
+
+// 1, 2, 3 or 6, the first that applies; of a plane it is told the length.
+fn strip_refusal(
+    w: u32,
+    left: &[u16; 256],
+    right: &[u16; 256],
+    view: u32,
+    texture: usize,
+    depths: usize,
+    samples: usize,
+    marks: usize,
+    fronts: usize,
+) -> Refusal
+    ensures { λ r. ⌜ numberOf r ≡ stripNumber w (now (left .entry)) (now (right .entry)) view texture depths samples marks fronts ⌝ }
+{
+    if !validate::side_ok(w) {
+        return Refusal::Size;
+    }
+    if !strip_sized(w as usize, texture, depths, samples, marks, fronts) {
+        return Refusal::Plane;
+    }
+    if !validate::table_ok(left) {
+        return Refusal::Table;
+    }
+    if !validate::table_ok(right) {
+        return Refusal::Table;
+    }
+    if 1 < view {
+        return Refusal::View;
+    }
+    Refusal::None
+}
+
+// Draws the row into samples, packed marks and front depths; `flags` is room for its marks.
+fn draw_packed(
+    right: bool,
+    table: &[u16; 256],
+    texture: &[u8],
+    depths: &[u8],
+    samples: &mut [u8],
+    marks: &mut [u8],
+    fronts: &mut [u8],
+    flags: &mut [u8],
+)
+    requires { ⌜ Ready (line (now table) (now texture) (now depths)) ⌝ }
+    requires { ⌜ (length (now samples) ≡ length (now depths)) × ((length (now marks) ≡ markBytes (length (now depths))) × (length (now fronts) ≡ length (now depths))) ⌝ }
+    requires { ⌜ length (now depths) ≤ length (now flags) ⌝ }
+    ensures { λ _. ⌜ strip (now (samples .exit)) (now (marks .exit)) (now (fronts .exit))
+        ≡ stripOf (length (now (depths .entry))) (viewRow right (line (now (table .entry)) (now (texture .entry)) (now (depths .entry)))) ⌝ }
+{
+    let w = depths.len();
+    row::draw_view_row(
+        right,
+        table,
+        texture,
+        depths,
+        samples,
+        fronts,
+        &mut flags[..w],
+    );
+    marks::pack(&flags[..w], marks);
+}
+
+// The same, with room of its own.
+fn draw_strip(
+    right: bool,
+    table: &[u16; 256],
+    texture: &[u8],
+    depths: &[u8],
+    samples: &mut [u8],
+    marks: &mut [u8],
+    fronts: &mut [u8],
+)
+    requires { ⌜ Ready (line (now table) (now texture) (now depths)) ⌝ }
+    requires { ⌜ (length (now samples) ≡ length (now depths)) × ((length (now marks) ≡ markBytes (length (now depths))) × (length (now fronts) ≡ length (now depths))) ⌝ }
+    ensures { λ _. ⌜ strip (now (samples .exit)) (now (marks .exit)) (now (fronts .exit))
+        ≡ stripOf (length (now (depths .entry))) (viewRow right (line (now (table .entry)) (now (texture .entry)) (now (depths .entry)))) ⌝ }
+{
+    let mut flags = [0u8; 4096];
+    draw_packed(
+        right,
+        table,
+        texture,
+        depths,
+        samples,
+        marks,
+        fronts,
+        &mut flags[..],
+    );
+}
+
+// RENDER draws one row of one view with that view's table; h is taken as 1 and not tested.
+pub fn render(
+    settings: Settings,
+    view: u32,
+    texture: &[u8],
+    depths: &[u8],
+    samples: &mut [u8],
+    marks: &mut [u8],
+    fronts: &mut [u8],
+) -> Refusal
+    ensures { λ r. ⌜ RenderPost settings view (now (texture .entry)) (now (depths .entry))
+        (strip (now (samples .entry)) (now (marks .entry)) (now (fronts .entry)))
+        (strip (now (samples .exit)) (now (marks .exit)) (now (fronts .exit))) r ⌝ }
+{
+    let left = settings.left;
+    let right = settings.right;
+    let refusal = strip_refusal(
+        settings.w,
+        &left,
+        &right,
+        view,
+        texture.len(),
+        depths.len(),
+        samples.len(),
+        marks.len(),
+        fronts.len(),
+    );
+    if model::number(refusal) != 0 {
+        return refusal;
+    }
+    if view == 1 {
+        draw_strip(true, &right, texture, depths, samples, marks, fronts);
+    } else {
+        draw_strip(false, &left, texture, depths, samples, marks, fronts);
+    }
+    refusal
+}

@@ -1,0 +1,5 @@
+-- Why it holds: the laws of a row's drawing, by topic.
+pub mod Below
+pub mod Lows
+pub mod Pass
+pub mod Wholes

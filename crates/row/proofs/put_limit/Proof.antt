@@ -1,0 +1,35 @@
+use Prim.Native.Nat.{ℕ}
+use mathlib.Core.Path.{ap, _∙_}
+use mir.Syntax.{w16}
+use mir.ValLaws.{toZ-ofZ}
+use denote.Ref.{now}
+use lib.IntN.{pos}
+use lib.ListN.{set}
+use Rattle.model.specs.Views.{seen}
+use Rattle.model.proofs.Views.{set-seen}
+use borrow.Author.Needs.{needs}
+use Rattle.row.proofs.put_limit.Statement.{statement}
+use Rattle.row.proofs.put_limit.Tie as tie
+
+entry-requires : tie.Need-entry-requires
+entry-requires c κs = search needs
+
+mul-v : tie.Need-mul-v
+mul-v c = search needs
+
+slice-set-from-v : tie.Need-slice-set-from-v
+slice-set-from-v c = search needs
+
+same-length : tie.Need-same-length
+same-length c = search needs
+
+returns : tie.Need-returns
+returns c =
+    let s = c .before in
+    let a = s .args in
+    rw (toZ-ofZ w16 (a .v) (s .fits .v))
+    (ap (λ (i : ℕ). seen (a .right) (set (now (a .row)) i (a .v))) (c .entry .ensures .0)
+    ∙ set-seen (pos 0) (a .right) (now (a .row)) (a .c) (a .v) (s .pre))
+
+pub put-limit-spec : {M : Type 1} → statement M
+put-limit-spec = tie.close (tie.spec entry-requires mul-v slice-set-from-v same-length returns)

@@ -1,0 +1,27 @@
+use Prim.Native.Nat.{ℕ}
+use mathlib.Core.Path.{ap, _∙_}
+use denote.Ref.{now}
+use Rattle.model.specs.Row.{place, least as leastOf}
+use Rattle.model.specs.Views.{seen}
+use borrow.Author.Needs.{needs}
+use Rattle.row.proofs.row_low.Statement.{statement}
+use Rattle.row.proofs.row_low.Tie as tie
+
+column-before-requires : tie.Need-column-before-requires
+column-before-requires c κs = search needs
+
+place-of-requires : tie.Need-place-of-requires
+place-of-requires c κs = search needs
+
+least-place-requires : tie.Need-least-place-requires
+least-place-requires c κs = search needs
+
+returns : tie.Need-returns
+returns c =
+    let a = c .before .before .before .before .args in
+    let f = place (now (a .table)) (seen (a .right) (now (a .depths))) in
+    c .least-place .ensures ∙ ap (λ (top : ℕ). leastOf f top (a .a) (a .n)) (c .before .place-of .ensures ∙ ap f (c .before .before .column-before .ensures))
+
+pub row-low-spec : {M : Type 1} → statement M
+row-low-spec =
+    tie.close (tie.spec column-before-requires place-of-requires least-place-requires returns)

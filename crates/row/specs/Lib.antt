@@ -1,0 +1,2 @@
+-- One row of one view as it is drawn.
+pub mod Drawing

@@ -1,0 +1,8 @@
+-- Why it holds, by topic.
+pub mod Decimal
+pub mod Numbers
+pub mod Positions
+pub mod Lines
+pub mod Rows
+pub mod Lengths
+pub mod Spare

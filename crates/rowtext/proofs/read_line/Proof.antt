@@ -1,0 +1,119 @@
+-- `read_line` meets its contract. The loop's invariant: the line is read as its first k numbers before what is read of the rest.
+use Prim.Native.Nat.{_≤_, _-_}
+use mathlib.Core.Path.{_≡_, ap, _∙_}
+use native.Mathlib.Omega.{arith}
+use lib.ListN.{length, take, drop, length-set}
+use borrow.Author.Needs.{needs}
+use Rattle.rowtext.specs.Promise.{ZeroFrom}
+use Rattle.rowtext.specs.Reader.{readLine}
+use Rattle.rowtext.proofs.Lines.{ahead, turn-first, turn-on, turn-off, turn-end}
+use Rattle.rowtext.proofs.Spare.{zeros-zero, zeros-set}
+use Rattle.rowtext.proofs.read_line.Statement.{statement}
+use Rattle.rowtext.proofs.read_line.Tie as tie
+
+abbrev Inv-loop : tie.InvT-loop
+Inv-loop text from w values₀ at₀ k₀ values at k =
+    (k ≤ w) × (length values ≡ 64) × ZeroFrom k values
+    × (readLine 255 w (drop from text) ≡ ahead (take k values) (readLine 255 (w - k) (drop at text)))
+
+abbrev μ-loop : tie.MeasureT-loop
+μ-loop text from w values₀ at₀ k₀ values at k = w - k
+
+zeros-requires : tie.Need-zeros-requires Inv-loop μ-loop
+zeros-requires c κs = search needs
+
+loop-holds : tie.Need-loop-holds Inv-loop μ-loop
+loop-holds c =
+    let z = c .zeros in
+    (omega arith, ap length (z .ensures), zeros-zero 64 (z .result) (z .ensures), turn-first (c .before .before .args .w) (z .result) _)
+
+sub-mark-of : tie.Need-sub-mark-of Inv-loop μ-loop
+sub-mark-of c = search needs
+
+sub-mark-of-2 : tie.Need-sub-mark-of-2 Inv-loop μ-loop
+sub-mark-of-2 c = search needs
+
+mark-of-requires : tie.Need-mark-of-requires Inv-loop μ-loop
+mark-of-requires c κs = search needs
+
+read-field-requires : tie.Need-read-field-requires Inv-loop μ-loop
+read-field-requires c κs = search needs
+
+enum-known-value : tie.Need-enum-known-value Inv-loop μ-loop
+enum-known-value c = search needs
+
+enum-told : tie.Need-enum-told Inv-loop μ-loop
+enum-told c = search needs
+
+returns : tie.Need-returns Inv-loop μ-loop
+returns c =
+    let f = c .before .before .read-field in
+    let m = c .before .before .before .mark-of in
+    let i = c .before .before .before .before .before .loop in
+    let none = rw (c .enum-told .given .1) at (f .ensures .read) in
+    record {
+      read =
+          turn-off (c .before .before .before .before .before .before .before .before .args .w) (i .k) (m .result)
+          (c .before .before .before .before .loop-test .taken) (m .ensures .0) (i .values) _ _ (i .inv .3) none;
+      spare = λ n h. i .inv .2 n (omega arith);
+    }
+
+narrow-requires : tie.Need-narrow-requires Inv-loop μ-loop
+narrow-requires c κs =
+    let v = c .before .value .given in
+    rw (v .1) at (c .before .before .before .read-field .ensures .value)
+
+array-write-values : tie.Need-array-write-values Inv-loop μ-loop
+array-write-values c = search needs
+
+add-k : tie.Need-add-k Inv-loop μ-loop
+add-k c = search needs
+
+loop-less : tie.Need-loop-less Inv-loop μ-loop
+loop-less c = search needs
+
+loop-again : tie.Need-loop-again Inv-loop μ-loop
+loop-again c =
+    let f = c .before .before .before .before .read-field in
+    let m = c .before .before .before .before .before .mark-of in
+    let i = c .before .before .before .before .before .before .before .loop in
+    let v = c .before .before .value .given in
+    let found = rw (v .1) at (f .ensures .read) in
+    let n = c .narrow in (
+      omega arith,
+      length-set (i .values) (i .k) (n .result) ∙ i .inv .1,
+      zeros-set (i .k) (i .values) (n .result) (i .inv .2),
+      turn-on (c .before .before .before .before .before .before .before .before .before .before .args .w) (i .k) (m .result)
+          (c .before .before .before .before .before .before .loop-test .taken) (m .ensures .0) (i .values) _ _ (i .inv .3)
+          (n .result) (v .0 .0) _ (n .ensures) (omega arith) found,
+    )
+
+returns-2 : tie.Need-returns-2 Inv-loop μ-loop
+returns-2 c =
+    let i = c .before .loop in
+    record {
+      read = turn-end (c .before .before .before .before .args .w) (i .k) (c .loop-test .left) (i .inv .0) (i .values) _ _ (i .inv .3);
+      spare = λ n h. i .inv .2 n (omega arith);
+    }
+
+pub read-line-spec : {M : Type 1} → statement M
+read-line-spec =
+    tie.close
+    (tie.spec
+    Inv-loop
+    μ-loop
+    zeros-requires
+    loop-holds
+    sub-mark-of
+    sub-mark-of-2
+    mark-of-requires
+    read-field-requires
+    enum-known-value
+    enum-told
+    returns
+    narrow-requires
+    array-write-values
+    add-k
+    loop-less
+    loop-again
+    returns-2)

@@ -1,0 +1,2 @@
+-- How a held limit is read.
+pub mod Limits

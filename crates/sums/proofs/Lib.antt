@@ -1,0 +1,2 @@
+-- Laws of the table of squares.
+pub mod Tables

@@ -1,0 +1,51 @@
+-- `sums::shared` meets its contract: the two weights add up to 64, so that the sum is at most 64 × 255 + 32.
+use Prim.Native.Nat.{_-_, _*_, _≤_}
+use native.Mathlib.Nat.{mul-le-mul-right}
+use native.Mathlib.Omega.{arith}
+use mathlib.Core.Path.{refl}
+use borrow.Author.Needs.{needs}
+use Rattle.model.specs.Combined as model
+use Rattle.sums.proofs.shared.Statement.{statement}
+use Rattle.sums.proofs.shared.Tie as tie
+
+-- each product is at most 255 times its weight
+parts : (c : tie.Start) → (c .args .left * (64 - c .args .share) ≤ 255 * (64 - c .args .share)) × (c .args .right * c .args .share ≤ 255 * c .args .share)
+parts c = (mul-le-mul-right (64 - c .args .share) (omega arith), mul-le-mul-right (c .args .share) (omega arith))
+
+sub-result : tie.Need-sub-result
+sub-result c = search needs
+
+cast-result : tie.Need-cast-result
+cast-result c = search needs
+
+mul-result : tie.Need-mul-result
+mul-result c = omega (arith, parts c)
+
+mul-result-2 : tie.Need-mul-result-2
+mul-result-2 c = omega (arith, parts c)
+
+add-result : tie.Need-add-result
+add-result c = omega (arith, parts c)
+
+add-result-2 : tie.Need-add-result-2
+add-result-2 c = omega (arith, parts c)
+
+cast-result-2 : tie.Need-cast-result-2
+cast-result-2 c = omega (arith, parts c)
+
+returns : tie.Need-returns
+unfolding model.shared
+returns c = refl
+
+pub shared-spec : {M : Type 1} → statement M
+shared-spec =
+    tie.close
+    (tie.spec
+    sub-result
+    cast-result
+    mul-result
+    mul-result-2
+    add-result
+    add-result-2
+    cast-result-2
+    returns)

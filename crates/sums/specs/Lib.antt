@@ -1,0 +1,3 @@
+-- The table of squares, and the combined sample by view.
+pub mod Squares
+pub mod Sides

@@ -1,0 +1,102 @@
+use mathlib.Core.Path.{_≡_, sym, _∙_}
+use mathlib.Core.Bool.{true}
+use borrow.Author.Tests.{not-true, not-false, le-leb, lt-leb}
+use Rattle.model.specs.Refusals.{sideOk, tableOk}
+use Rattle.validate.specs.Numbers.{planesFit, commonNumber}
+use Rattle.model.proofs.Refusals.{side-facts}
+use borrow.Author.Needs.{needs}
+use Rattle.validate.proofs.common.Statement.{statement}
+use Rattle.validate.proofs.common.Tie as tie
+
+-- what each test has shown where it passed
+w-ok : (c : tie.Else1) → sideOk (c .before .before .args .w) ≡ true
+w-ok c = sym (c .before .side-ok .ensures) ∙ not-false _ (c .if1 .left)
+
+h-ok : (c : tie.Else2) → sideOk (c .before .before .before .before .args .h) ≡ true
+h-ok c = sym (c .before .side-ok2 .ensures) ∙ not-false _ (c .if2 .left)
+
+planes-ok : (c : tie.Else3) → let a = c .before .before .before .before .before .before .args in planesFit (a .w) (a .h) (a .lengths) ≡ true
+planes-ok c = sym (c .before .planes-sized .ensures) ∙ not-false _ (c .if3 .left)
+
+left-ok : (c : tie.Else4) → tableOk (c .before .before .before .before .before .before .before .before .args .left .now) ≡ true
+left-ok c = sym (c .before .table-ok .ensures) ∙ not-false _ (c .if4 .left)
+
+right-ok : (c : tie.Else5) → tableOk (c .before .before .before .before .before .before .before .before .before .before .args .right .now) ≡ true
+right-ok c = sym (c .before .table-ok2 .ensures) ∙ not-false _ (c .if5 .left)
+
+side-ok-requires : tie.Need-side-ok-requires
+side-ok-requires c κs = search needs
+
+returns : tie.Need-returns
+unfolding commonNumber
+returns c = rw (sym (c .before .side-ok .ensures) ∙ not-true _ (c .if1 .taken))
+
+side-ok-requires-2 : tie.Need-side-ok-requires-2
+side-ok-requires-2 c κs = search needs
+
+returns-2 : tie.Need-returns-2
+unfolding commonNumber
+returns-2 c = rw (w-ok (c .before .before), sym (c .before .side-ok2 .ensures) ∙ not-true _ (c .if2 .taken))
+
+planes-sized-requires : tie.Need-planes-sized-requires
+planes-sized-requires c κs = (side-facts _ (w-ok (c .before .before)) .most, side-facts _ (h-ok c) .most)
+
+returns-3 : tie.Need-returns-3
+unfolding commonNumber
+returns-3 c = rw (w-ok (c .before .before .before .before), h-ok (c .before .before), sym (c .before .planes-sized .ensures) ∙ not-true _ (c .if3 .taken))
+
+table-ok-requires : tie.Need-table-ok-requires
+table-ok-requires c κs = search needs
+
+returns-4 : tie.Need-returns-4
+unfolding commonNumber
+returns-4 c =
+    rw (
+      w-ok (c .before .before .before .before .before .before),
+      h-ok (c .before .before .before .before),
+      planes-ok (c .before .before),
+      sym (c .before .table-ok .ensures) ∙ not-true _ (c .if4 .taken),
+    )
+
+table-ok-requires-2 : tie.Need-table-ok-requires-2
+table-ok-requires-2 c κs = search needs
+
+returns-5 : tie.Need-returns-5
+unfolding commonNumber
+returns-5 c =
+    rw (
+      w-ok (c .before .before .before .before .before .before .before .before),
+      h-ok (c .before .before .before .before .before .before),
+      planes-ok (c .before .before .before .before),
+      left-ok (c .before .before),
+      sym (c .before .table-ok2 .ensures) ∙ not-true _ (c .if5 .taken),
+    )
+
+returns-6 : tie.Need-returns-6
+unfolding commonNumber
+returns-6 c =
+    rw
+    (w-ok (c .before .before .before .before .before .before .before .before .before), h-ok (c .before .before .before .before .before .before .before), planes-ok (c .before .before .before .before .before), left-ok (c .before .before .before), right-ok (c .before), lt-leb _ _ (c .if6 .taken))
+
+returns-7 : tie.Need-returns-7
+unfolding commonNumber
+returns-7 c =
+    rw
+    (w-ok (c .before .before .before .before .before .before .before .before .before), h-ok (c .before .before .before .before .before .before .before), planes-ok (c .before .before .before .before .before), left-ok (c .before .before .before), right-ok (c .before), le-leb _ _ (c .if6 .left))
+
+pub common-spec : {M : Type 1} → statement M
+common-spec =
+    tie.close
+    (tie.spec
+    side-ok-requires
+    returns
+    side-ok-requires-2
+    returns-2
+    planes-sized-requires
+    returns-3
+    table-ok-requires
+    returns-4
+    table-ok-requires-2
+    returns-5
+    returns-6
+    returns-7)
