@@ -1,12 +1,12 @@
 -- A pair of columns shows what the row shows where the first of them is the owner.
-use Prim.Native.Nat.{ℕ, _+_, _-_, _<_, _≤_}
-use mathlib.Core.Path.{_≡_, refl}
+use Prim.Native.Nat.{ℕ, _+_, _<_, _≤_}
+use mathlib.Core.Path.{_≡_}
 use mathlib.Core.Logic.{⊎-elim}
 use mathlib.Core.List.{List}
 use lib.ListN.{length}
 use native.Mathlib.Omega.{arith}
 use borrow.Author.Tests.{le-leb, lt-leb}
-use Rattle.model.specs.Row.{Line, width, quarter, place, placeIn, mixed, smoothPixel, tornPixel, lastPixel, pairPixel, ownedPixel}
+use Rattle.model.specs.Row.{Line, width, quarter, place, mixed, smoothPixel, tornPixel, lastPixel, pairPixel, ownedPixel}
 use Rattle.model.proofs.Choice.{lt-or-le}
 use Rattle.pixel.specs.Pairs.{nextPlace, pairOf, mixOf, smoothOf, tornOf, lastOf, kindPixel, pixelOf}
 

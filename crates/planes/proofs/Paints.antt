@@ -1,5 +1,5 @@
 -- The three planes of a row, painted part by part: the laws of Fills, once for samples, front depths and marks.
-use Prim.Native.Nat.{ℕ, _+_, _-_, _<_, _≤_}
+use Prim.Native.Nat.{ℕ, _+_, _<_, _≤_}
 use mathlib.Core.Path.{_≡_, ap}
 use mathlib.Core.List.{List}
 use lib.ListN.{length, set}

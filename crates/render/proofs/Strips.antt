@@ -16,7 +16,7 @@ use Rattle.model.specs.Row.{Line, line, Row}
 use Rattle.model.specs.Views.{isRight, viewRow}
 use Rattle.model.specs.Fresh.{stripOf}
 use Rattle.model.specs.Promises.{RenderPost}
-use Rattle.model.specs.Refusals.{numberOf, unless, sideOk, tableOk, tablesOk, viewOk, stripSized, renderNumber}
+use Rattle.model.specs.Refusals.{numberOf, sideOk, tableOk, tablesOk, viewOk, stripSized, renderNumber}
 use Rattle.model.proofs.Choice.{and-left, and-right}
 use Rattle.model.proofs.Packing.{Flags}
 use Rattle.model.proofs.Fresh.{flags-view}

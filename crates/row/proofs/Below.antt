@@ -3,7 +3,7 @@
 --     below-limit, below-pixel                           with the true limit of n they are the row's limits and pixels
 --     flag-below                                         its marks are 0 or 1
 --     first-mono, first-within                           positions before x, for x in a row
-use Prim.Native.Nat.{ℕ, suc, _+_, _-_, _*_, _/_, _<_, _≤_, min}
+use Prim.Native.Nat.{ℕ, suc, _+_, _-_, _<_, _≤_, min}
 use mathlib.Core.Path.{_≡_, ap}
 use mathlib.Core.List.{List}
 use native.Mathlib.Omega.{arith}

@@ -1,6 +1,6 @@
 -- The least place of some columns, found from the right; and the low end of a span.
 use Prim.Native.Nat.{ℕ, zero, suc, _+_, _-_, _<_, _≤_, min}
-use mathlib.Core.Path.{_≡_, refl, sym, ap, _∙_}
+use mathlib.Core.Path.{_≡_, refl, ap, _∙_}
 use native.Mathlib.Omega.{arith}
 use Rattle.model.specs.Row.{least}
 use Rattle.model.specs.Span.{spanLow}

@@ -2,16 +2,15 @@
 --     drawn, fill-fits, pair-row                            one column
 --     pass-start, pass-column, pass-roof, pass-next, pass-end    the pass over the columns
 --     limits-next                                           the limits, in a pass of their own
-use Prim.Native.Nat.{ℕ, _+_, _-_, _*_, _/_, _<_, _≤_, min}
-use mathlib.Core.Path.{_≡_, refl, sym, ap, _∙_}
+use Prim.Native.Nat.{ℕ, _+_, _-_, _<_, _≤_, min}
+use mathlib.Core.Path.{_≡_, sym, ap, _∙_}
 use mathlib.Core.Logic.{⊎-elim}
 use mathlib.Core.List.{List}
 use native.Mathlib.Omega.{arith}
 use native.Mathlib.Nat.{le-trans, le-of-lt}
 use lib.ListN.{length, set}
 use lib.IntN.{ℤ, pos}
-use Rattle.model.specs.declared.Pixel.{Pixel}
-use Rattle.model.specs.Row.{Line, width, quarter, place, placeIn, signed, ownedPixel}
+use Rattle.model.specs.Row.{Line, width, quarter, placeIn, signed, ownedPixel}
 use Rattle.model.proofs.Choice.{lt-or-le}
 use Rattle.model.proofs.Owners.{Owns, owner-is, place-zero}
 use Rattle.planes.specs.Parts.{Filled, Painted}

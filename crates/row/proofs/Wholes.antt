@@ -1,6 +1,6 @@
 -- A row drawn whole: all its columns, and `high` the row's end.
-use Prim.Native.Nat.{ℕ, _+_, _-_, _*_, _/_, _<_, _≤_}
-use mathlib.Core.Path.{_≡_, refl, sym, ap, _∙_}
+use Prim.Native.Nat.{ℕ, _+_, _-_, _<_, _≤_}
+use mathlib.Core.Path.{_≡_, sym, ap, _∙_}
 use mathlib.Core.Bool.{Bool}
 use mathlib.Core.List.{List}
 use native.Mathlib.Omega.{arith}
@@ -17,7 +17,7 @@ use Rattle.planes.proofs.Fills.{filled-change}
 use Rattle.planes.proofs.SeenParts.{seen-all}
 use Rattle.pixel.specs.Pairs.{nextPlace}
 use Rattle.pixel.proofs.Pairs.{next-last}
-use Rattle.row.specs.Drawing.{firstAt, pixelBelow, limitBelow, Ready, Shows, Drawn}
+use Rattle.row.specs.Drawing.{firstAt, pixelBelow, limitBelow, Ready, Shows}
 use Rattle.row.proofs.Below.{below-limit, below-pixel}
 
 -- the row as the view reads it can be drawn where the row can

@@ -2,9 +2,9 @@
 use pixel::Pair;
 ghost use mathlib.Core.Path.{_≡_};
 ghost use mathlib.Core.Bool.{true};
-ghost use Prim.Native.Nat.{ℕ, _+_, _-_, _≤_, _<_, min};
+ghost use Prim.Native.Nat.{_+_, _-_, _≤_, _<_, min};
 ghost use lib.ListN.{length, getD, set};
-ghost use lib.IntN.{ℤ, pos};
+ghost use lib.IntN.{pos};
 ghost use Rattle.model.specs.Row.{line, quarter, place, signed, ownedPixel, least as leastOf};
 ghost use Rattle.model.specs.Views.{seen, entryOf, viewRow};
 ghost use Rattle.model.specs.Span.{firstColumn};

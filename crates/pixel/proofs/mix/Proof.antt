@@ -6,10 +6,8 @@ use Rattle.pixel.proofs.Steps.{weigh}
 use borrow.Author.Needs.{needs}
 use Rattle.pixel.proofs.mix.Statement.{statement}
 use Rattle.pixel.proofs.mix.Tie as tie
-use Rattle.pixel.proofs.mix.Reads as reads
-use Rattle.pixel.proofs.mix.Lts as lts
 
-most : (c : lts.After-struct-known reads.Pre reads.Post) → c .before .args .q .s0 * (4 - c .before .args .k) + c .before .args .q .s1 * c .before .args .k ≤ 255 * 4
+most : (c : tie.After-struct-known) → c .before .args .q .s0 * (4 - c .before .args .k) + c .before .args .q .s1 * c .before .args .k ≤ 255 * 4
 most c =
     let q = c .before .args .q in weigh 255 (q .s0) (q .s1) (c .before .args .k) (search needs) (search needs) (search needs)
 

@@ -1,0 +1,2 @@
+-- What SET writes, the combined picture with it.
+pub mod Combine

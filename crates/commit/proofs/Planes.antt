@@ -1,0 +1,186 @@
+-- The planes of one view after one row was written and drawn again.
+--     sized-row          a row of planes that have their sizes
+--     row-commits        every row that was sound is sound, and nothing outside the span's entries of the one row is drawn anew
+use Prim.Native.Nat.{ℕ, _+_, _*_, _<_, _≤_}
+use mathlib.Core.Path.{_≡_, refl, sym, ap, subst, _∙_}
+use mathlib.Core.Bool.{Bool}
+use mathlib.Core.Logic.{⊎-elim, _⊎_, inl, inr}
+use mathlib.Core.List.{List, append-assoc}
+use native.Mathlib.Omega.{arith}
+use native.Mathlib.Nat.{mul-comm}
+use lib.ListN.{length, getD, take, drop}
+use lib.Seq.{take-length, drop-drop, paste}
+use Rattle.model.specs.declared.Pixel.{Pixel}
+use Rattle.model.specs.Lists.{rowOf}
+use Rattle.model.specs.Row.{line, leftRow}
+use Rattle.model.specs.Views.{seen, viewRow}
+use Rattle.model.specs.Marks.{markBytes, packRow, markAt}
+use Rattle.model.specs.Planes.{View, viewRows}
+use Rattle.model.proofs.Choice.{lt-or-le}
+use Rattle.model.proofs.Lists.{rows-apart, length-row}
+use Rattle.model.proofs.Views.{length-view-marks}
+use Rattle.model.proofs.Packing.{Flags, mark-packRow}
+use Rattle.model.proofs.Fresh.{flags-view}
+use Rattle.planes.specs.Parts.{splice}
+use Rattle.planes.proofs.Splices.{splice-under, splice-beyond, row-splice, row-other}
+use Rattle.marks.specs.Puts.{putMarks, heldPixel}
+use Rattle.marks.proofs.Puts.{put-packRow}
+use Rattle.commit.specs.Commit.{Sized, RowIn, drawnRow, SoundRow, heldIn, Changed, spanShown, RowRedrawn, RowCommitted}
+use Rattle.commit.proofs.Shown.{length-shown, flags-shown}
+use Rattle.commit.proofs.Rows.{RowStep, shown-fits, limits-new, plane-new}
+
+row-in : (w h y n : ℕ) → y < h → n ≡ w * h → y * w + w ≤ n
+row-in w h y n k e = omega (arith, rows-apart w y h k, mul-comm w h)
+
+pub sized-row : {w h y : ℕ} {texture d : List ℕ} {v : View} → y < h → Sized w h texture d v → RowIn w y texture d v
+sized-row {w} {h} {y} k s =
+    record {
+      texture = row-in w h y _ k (s .texture);
+      depths = row-in w h y _ k (s .depths);
+      samples = row-in w h y _ k (s .samples);
+      fronts = row-in w h y _ k (s .fronts);
+      limits = row-in w h y _ k (s .limits);
+      marks = row-in (markBytes w) h y _ k (s .marks);
+    }
+
+-- marks put into a packed row
+splice-paste : (l : List ℕ) (at : ℕ) (xs : List ℕ) → paste l at xs (length xs) ≡ splice l at xs
+unfolding splice
+splice-paste l at xs = rw (take-length xs, ← drop-drop (length xs) at l) (append-assoc (take at l) xs (drop (length xs) (drop at l)))
+
+pub marks-spliced : (w at n : ℕ) (z ms : List ℕ) → Flags z → Flags ms → length z ≡ w → length ms ≡ n → at + length ms ≤ w → putMarks (packRow (markBytes w) z) at ms n ≡ packRow (markBytes w) (splice z at ms)
+marks-spliced w at n z ms hz hm e en k =
+    rw (← en)
+    (put-packRow (markBytes w) z at ms hz hm (omega arith) (length ms) (omega arith) (omega arith)
+    ∙ ap (packRow (markBytes w)) (splice-paste z at ms))
+
+-- an entry outside a part that is replaced
+outside : (row ys : List ℕ) (from to n i : ℕ) → from + length ys ≤ length row → length ys ≡ n → to ≡ from + n → (i < from) ⊎ (to ≤ i) → getD (splice row from ys) i 0 ≡ getD row i 0
+outside row ys from to n i fit e t (inl h) = splice-under 0 row from ys fit i h
+outside row ys from to n i fit e t (inr h) = splice-beyond 0 row from ys fit i (omega arith)
+
+pub same-row : (k y : ℕ) → (k ≡ y) ⊎ (k ≡ y → ⊥)
+same-row k y =
+    ⊎-elim (λ u. inr (λ e. omega arith))
+    (λ u. ⊎-elim (λ v. inr (λ e. omega arith)) (λ v. let e : k ≡ y = omega arith in inl e) (lt-or-le y k)) (lt-or-le k y)
+
+module _ (r : Bool) (t texture : List ℕ) (w y x n low high from to : ℕ) (candidate d d′ : List ℕ) (v v′ : View) (size : RowIn w y texture d v) (most : w ≤ 4096) (some : 0 < length candidate) (fits : x + length candidate ≤ w) (same : length (v′ .limits) ≡ length (v .limits)) (change : Changed r t w y x candidate d d′ (v .limits) (v′ .limits) n low high) (redraw : RowRedrawn r (line t (seen r (rowOf texture w y)) (seen r (rowOf d′ w y))) w y n low high from to (v .samples) (v .fronts) (v .marks) (v′ .samples) (v′ .fronts) (v′ .marks)) where
+  step : RowStep r t w x n low high from to candidate (rowOf d w y) (rowOf d′ w y) (rowOf (v .limits) w y) (rowOf (v′ .limits) w y)
+  step =
+      record {
+        wide = length-row d w y (size .depths);
+        most = most;
+        some = some;
+        fits = fits;
+        columns = change .columns;
+        depths = ap (λ (l : List ℕ). rowOf l w y) (change .depths) ∙ row-splice 0 d w y x candidate (size .depths) fits;
+        bottom = change .bottom;
+        top = change .top;
+        limits = change .limits;
+        same = length-row (v′ .limits) w y (rw same (size .limits)) ∙ sym (length-row (v .limits) w y (size .limits));
+        stretched = redraw .drawn .stretched;
+      }
+
+  fit : (g : Pixel → ℕ) → from + length (spanShown g r (line t (seen r (rowOf texture w y)) (seen r (rowOf d′ w y))) n low high) ≤ w
+  fit g = shown-fits step g (rowOf texture w y)
+
+  -- the row's planes of samples and fronts
+  samples-row : rowOf (v′ .samples) w y ≡ splice (rowOf (v .samples) w y) from (spanShown (λ q. q .sample) r (line t (seen r (rowOf texture w y)) (seen r (rowOf d′ w y))) n low high)
+  samples-row =
+      ap (λ (l : List ℕ). rowOf l w y) (redraw .drawn .samples)
+      ∙ row-splice 0 (v .samples) w y from _ (size .samples) (fit (λ q. q .sample))
+
+  fronts-row : rowOf (v′ .fronts) w y ≡ splice (rowOf (v .fronts) w y) from (spanShown (λ q. q .front) r (line t (seen r (rowOf texture w y)) (seen r (rowOf d′ w y))) n low high)
+  fronts-row =
+      ap (λ (l : List ℕ). rowOf l w y) (redraw .drawn .fronts)
+      ∙ row-splice 0 (v .fronts) w y from _ (size .fronts) (fit (λ q. q .front))
+
+  module _ (s : SoundRow r t texture w d v y) where
+    marks-wide : length (drawnRow r t texture w d y .marks) ≡ w
+    marks-wide = length-view-marks r (line t (rowOf texture w y) (rowOf d w y)) ∙ step .wide
+
+    marks-row : rowOf (v′ .marks) (markBytes w) y ≡ packRow (markBytes w) (splice (drawnRow r t texture w d y .marks) from (spanShown (λ q. q .mark) r (line t (seen r (rowOf texture w y)) (seen r (rowOf d′ w y))) n low high))
+    marks-row =
+        redraw .drawn .marks
+        ∙ rw (s .marks)
+        (marks-spliced w from _ (drawnRow r t texture w d y .marks) _ (flags-view r (line t (rowOf texture w y) (rowOf d w y)))
+        (flags-shown r (line t (seen r (rowOf texture w y)) (seen r (rowOf d′ w y))) n low high) marks-wide
+        (length-shown (λ q. q .mark) r (line t (seen r (rowOf texture w y)) (seen r (rowOf d′ w y))) n low high) (fit (λ q. q .mark)))
+
+    sound-here : SoundRow r t texture w d′ v′ y
+    unfolding viewRow leftRow
+    sound-here =
+        record {
+          samples = samples-row ∙ plane-new step (rowOf texture w y) (s .limits) (λ q. q .sample) (rowOf (v .samples) w y) (s .samples);
+          fronts = fronts-row ∙ plane-new step (rowOf texture w y) (s .limits) (λ q. q .front) (rowOf (v .fronts) w y) (s .fronts);
+          limits = limits-new step (rowOf texture w y) (s .limits);
+          marks = marks-row ∙ ap (packRow (markBytes w)) (plane-new step (rowOf texture w y) (s .limits) (λ q. q .mark) _ refl);
+        }
+
+    -- a mark is read from the packed row as it was drawn
+    mark-here : (e : List ℕ) (m : List ℕ) (i : ℕ) → m ≡ packRow (markBytes w) (drawnRow r t texture w e y .marks) → i < w → markAt m i ≡ getD (drawnRow r t texture w e y .marks) i 0
+    mark-here e m i em h =
+        rw em
+        (mark-packRow (markBytes w) (drawnRow r t texture w e y .marks) (flags-view r (line t (rowOf texture w y) (rowOf e w y))) i (omega arith))
+
+    marks-kept : (i : ℕ) → i < w → (i < from) ⊎ (to ≤ i) → markAt (rowOf (v′ .marks) (markBytes w) y) i ≡ markAt (rowOf (v .marks) (markBytes w) y) i
+    unfolding viewRow leftRow
+    marks-kept i h out =
+        mark-here d′ (rowOf (v′ .marks) (markBytes w) y) i (sound-here .marks) h
+        ∙ ap (λ (q : List ℕ). getD q i 0) (sym (plane-new step (rowOf texture w y) (s .limits) (λ q. q .mark) (drawnRow r t texture w d y .marks) refl))
+        ∙ outside _ _ from to _ i (rw marks-wide (fit (λ q. q .mark)))
+        (length-shown (λ q. q .mark) r (line t (seen r (rowOf texture w y)) (seen r (rowOf d′ w y))) n low high) (redraw .drawn .stretched .size) out
+        ∙ sym (mark-here d (rowOf (v .marks) (markBytes w) y) i (s .marks) h)
+
+    kept-here : (i : ℕ) → i < w → (i < from) ⊎ (to ≤ i) → heldIn w v′ y i ≡ heldIn w v y i
+    unfolding heldPixel
+    kept-here i h out =
+        let l = line t (seen r (rowOf texture w y)) (seen r (rowOf d′ w y)) in
+        let es : getD (rowOf (v′ .samples) w y) i 0 ≡ getD (rowOf (v .samples) w y) i 0 =
+        ap (λ (q : List ℕ). getD q i 0) samples-row
+        ∙ outside _ _ from to _ i (rw (length-row (v .samples) w y (size .samples)) (fit (λ q. q .sample)))
+        (length-shown (λ q. q .sample) r l n low high) (redraw .drawn .stretched .size) out in
+        let ef : getD (rowOf (v′ .fronts) w y) i 0 ≡ getD (rowOf (v .fronts) w y) i 0 =
+        ap (λ (q : List ℕ). getD q i 0) fronts-row
+        ∙ outside _ _ from to _ i (rw (length-row (v .fronts) w y (size .fronts)) (fit (λ q. q .front)))
+        (length-shown (λ q. q .front) r l n low high) (redraw .drawn .stretched .size) out in
+        let em = marks-kept i h out in
+        rw (es, ef, em)
+
+  module _ (k : ℕ) (ne : k ≡ y → ⊥) where
+    depths-other : rowOf d′ w k ≡ rowOf d w k
+    depths-other =
+        ap (λ (l : List ℕ). rowOf l w k) (change .depths) ∙ row-other 0 d w y k x candidate (size .depths) fits ne
+
+    others-kept : viewRows w v′ k ≡ viewRows w v k
+    others-kept =
+        let es : rowOf (v′ .samples) w k ≡ rowOf (v .samples) w k =
+        ap (λ (l : List ℕ). rowOf l w k) (redraw .drawn .samples) ∙ row-other 0 (v .samples) w y k from _ (size .samples) (fit (λ q. q .sample)) ne in
+        let ef : rowOf (v′ .fronts) w k ≡ rowOf (v .fronts) w k =
+        ap (λ (l : List ℕ). rowOf l w k) (redraw .drawn .fronts) ∙ row-other 0 (v .fronts) w y k from _ (size .fronts) (fit (λ q. q .front)) ne in
+        let ee = change .others k ne in
+        let em = redraw .others k ne in
+        rw (es, ef, ee, em)
+
+    sound-other : SoundRow r t texture w d v k → SoundRow r t texture w d′ v′ k
+    sound-other s =
+        let e = others-kept in
+        record {
+          samples = ap (λ (q : View). q .samples) e ∙ rw depths-other (s .samples);
+          fronts = ap (λ (q : View). q .fronts) e ∙ rw depths-other (s .fronts);
+          limits = ap (λ (q : View). q .limits) e ∙ rw depths-other (s .limits);
+          marks = ap (λ (q : View). q .marks) e ∙ rw depths-other (s .marks);
+        }
+
+  pub row-commits : RowCommitted r t texture w y x candidate d d′ v v′ from to
+  row-commits =
+      record {
+        depths = change .depths;
+        sound = λ k s. ⊎-elim
+            (λ e. subst (λ (i : ℕ). SoundRow r t texture w d′ v′ i) (sym e) (sound-here (subst (λ (i : ℕ). SoundRow r t texture w d v i) e s)))
+            (λ ne. sound-other k ne s) (same-row k y);
+        others = others-kept;
+        order = omega (arith, redraw .drawn .stretched .size);
+        within = redraw .drawn .stretched .within;
+        kept = kept-here;
+      }

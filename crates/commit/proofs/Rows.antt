@@ -1,0 +1,127 @@
+-- One row of one view, written and drawn again in its span: where it was sound it is sound.
+--     true-high          where the held limits are true, the span's high end is the limit
+--     limits-new         the row's limits
+--     plane-new          its samples, fronts and marks
+use Prim.Native.Nat.{ℕ, _+_, _-_, _<_, _≤_}
+use mathlib.Core.Path.{_≡_, refl, sym, ap, _∙_}
+use mathlib.Core.Bool.{Bool}
+use mathlib.Core.Logic.{⊎-elim, _⊎_, inl, inr}
+use mathlib.Core.List.{List}
+use native.Mathlib.Omega.{arith}
+use lib.ListN.{length, getD}
+use lib.IntN.{ℤ, pos}
+use Rattle.model.specs.declared.Pixel.{Pixel}
+use Rattle.model.specs.Lists.{listOf}
+use Rattle.model.specs.Row.{line, place, limit, limitAt, quarter, pixelAt, leftRow}
+use Rattle.model.specs.Views.{seen, viewRow}
+use Rattle.model.specs.Span.{spanLow, spanHigh, firstColumn}
+use Rattle.model.proofs.Lists.{getD-listOf}
+use Rattle.model.proofs.Views.{length-seen, seen-seen, length-seen-list}
+use Rattle.model.proofs.Spans.{EditedRow, Outside, edited-moved, moved-limit, span-limit, span-pixel}
+use Rattle.planes.specs.Parts.{splice}
+use Rattle.planes.proofs.Splices.{length-splice}
+use Rattle.planes.proofs.Fills.{filled-rest, filled-change}
+use Rattle.planes.proofs.SeenParts.{first-fits}
+use Rattle.row.specs.Drawing.{firstAt, pixelBelow}
+use Rattle.row.proofs.Below.{below-pixel, first-within}
+use Rattle.commit.specs.Commit.{High, Relimited, Stretched, spanShown}
+use Rattle.commit.proofs.Shown.{length-shown, shown-filled}
+use Rattle.commit.proofs.Edits.{row-edited, low-within}
+use Rattle.commit.proofs.Limits.{limits-again}
+
+-- what one row's edit is: depths d before and d′ after, held limits e before and e′ after
+pub record RowStep (r : Bool) (t : List ℕ) (w x n low high from to : ℕ) (candidate d d′ : List ℕ) (e e′ : List ℤ) : Type 0 where
+  pub wide : length d ≡ w
+  pub most : w ≤ 4096
+  pub some : 0 < length candidate
+  pub fits : x + length candidate ≤ w
+  pub columns : n ≡ firstColumn r w x (length candidate) + length candidate
+  pub depths : d′ ≡ splice d x candidate
+  pub bottom : low ≡ spanLow (place t (seen r d)) (place t (seen r d′)) (firstColumn r w x (length candidate)) (n - 1)
+  pub top : High t (seen r d′) n high (seen r e)
+  pub limits : Relimited t (seen r d′) (firstColumn r w x (length candidate)) n high (seen r e) (seen r e′)
+  pub same : length e′ ≡ length e
+  pub stretched : Stretched r w low high from to
+
+module _ {r : Bool} {t : List ℕ} {w x n low high from to : ℕ} {candidate d d′ : List ℕ} {e e′ : List ℤ} (step : RowStep r t w x n low high from to candidate d d′ e e′) where
+  pub columns-most : n ≤ w
+  columns-most = rw (step .columns) (first-fits r w x (length candidate) (step .fits))
+
+  pub edited : EditedRow (seen r d) (seen r d′) (firstColumn r w x (length candidate)) (n - 1)
+  edited =
+      rw (step .depths, step .columns)
+      (row-edited r d candidate x w (firstColumn r w x (length candidate)) (step .wide) (step .some) (step .fits) refl)
+
+  old-wide : length (seen r d) ≡ w
+  old-wide = length-seen r d ∙ step .wide
+
+  new-wide : length (seen r d′) ≡ w
+  new-wide = edited .same ∙ old-wide
+
+  some-columns : 0 < n
+  some-columns = omega (arith, step .columns, step .some)
+
+  pub start-in : firstAt low ≤ w
+  start-in =
+      low-within t (seen r d) (seen r d′) (firstColumn r w x (length candidate)) (n - 1) w low (omega (arith, columns-most, step .columns)) (step .bottom)
+
+  pub end-in : firstAt high ≤ w
+  end-in = rw new-wide at (first-within t (seen r d′) (n - 1) high (step .top .roof))
+
+  pub shown-fits : (g : Pixel → ℕ) (s : List ℕ) → from + length (spanShown g r (line t (seen r s) (seen r d′)) n low high) ≤ w
+  shown-fits g s =
+      rw (length-shown g r (line t (seen r s) (seen r d′)) n low high, ← step .stretched .size) (step .stretched .within)
+
+  module _ (s : List ℕ) (old : e ≡ viewRow r (line t s d) .limits) where
+    old-limits : seen r e ≡ listOf (limitAt (line t (seen r s) (seen r d))) (length (seen r d))
+    unfolding viewRow leftRow
+    old-limits = ap (seen r) old ∙ seen-seen r _
+
+    pub true-high : high ≡ limit (place t (seen r d′)) (length (seen r d′)) n
+    unfolding limitAt
+    true-high =
+        step .top .exact
+        (λ k.
+        ap (λ (l : List ℤ). getD l n (pos 0)) old-limits
+        ∙ getD-listOf (pos 0) (limitAt (line t (seen r s) (seen r d))) (length (seen r d)) n (rw (edited .same) at k)
+        ∙ sym (span-limit t (seen r s) (seen r d) (seen r d′) (firstColumn r w x (length candidate)) (n - 1) n edited (omega (arith, some-columns))))
+
+    pub limits-new : e′ ≡ viewRow r (line t s d′) .limits
+    unfolding viewRow leftRow
+    limits-new =
+        sym (seen-seen r e′)
+        ∙ ap (seen r)
+        (limits-again t (seen r s) (seen r d) (seen r d′) (firstColumn r w x (length candidate)) (n - 1) n high edited (omega (arith, some-columns))
+        (rw old-wide (step .most)) true-high old-limits (length-seen r e′ ∙ step .same ∙ sym (length-seen r e)) (step .limits))
+
+    -- a position that is not drawn again lies outside the span, and one that is drawn shows the row
+    undrawn : (p : ℕ) → (p < firstAt low) ⊎ (firstAt high ≤ p) → Outside (place t (seen r d)) (place t (seen r d′)) (length (seen r d)) (firstColumn r w x (length candidate)) (n - 1) (quarter p)
+    unfolding spanHigh
+    undrawn p h =
+        let m : n - 1 + 1 ≡ n = omega (arith, some-columns) in
+        let e : limit (place t (seen r d)) (length (seen r d)) n ≡ high =
+        sym (true-high ∙ ap (λ (k : ℕ). limit (place t (seen r d′)) k n) (edited .same)
+        ∙ moved-limit (edited-moved t (seen r d) (seen r d′) (firstColumn r w x (length candidate)) (n - 1) edited) n (omega (arith, some-columns))) in
+        rw (m, e, ← step .bottom) (⊎-elim (λ k. inl (omega arith)) (λ k. inr (omega arith)) h)
+
+    drawn : (p : ℕ) → p < firstAt high → pixelBelow (line t (seen r s) (seen r d′)) n p ≡ pixelAt (line t (seen r s) (seen r d′)) p
+    drawn p h =
+        below-pixel (line t (seen r s) (seen r d′)) n p some-columns (rw new-wide columns-most) (rw (← true-high) (under h))
+      where
+        under : p < firstAt high → quarter p < high
+        under h = omega arith
+
+    pub plane-new : (g : Pixel → ℕ) (row : List ℕ) → row ≡ seen r (listOf (λ p. g (pixelAt (line t (seen r s) (seen r d)) p)) (length (seen r d))) → splice row from (spanShown g r (line t (seen r s) (seen r d′)) n low high) ≡ seen r (listOf (λ p. g (pixelAt (line t (seen r s) (seen r d′)) p)) (length (seen r d′)))
+    plane-new g row was =
+        let l = line t (seen r s) (seen r d′) in
+        let lr : length row ≡ w = ap length was ∙ length-seen-list r _ (length (seen r d)) ∙ old-wide in
+        let ys : List ℕ = spanShown g r l n low high in
+        let len : length (seen r (splice row from ys)) ≡ length (seen r row) =
+        length-seen r (splice row from ys) ∙ length-splice row from ys (rw lr (shown-fits g s)) ∙ sym (length-seen r row) in
+        sym (seen-seen r (splice row from ys))
+        ∙ ap (seen r)
+        (rw (edited .same)
+        (filled-rest
+        (filled-change (shown-filled g r l n low high w from row lr end-in (step .stretched .first)) (λ p u v. ap g (drawn p v)))
+        (ap (seen r) was ∙ seen-seen r _) len
+        (λ p k h. ap g (span-pixel t (seen r s) (seen r d) (seen r d′) (firstColumn r w x (length candidate)) (n - 1) p edited k (undrawn p h)))))

@@ -1,0 +1,114 @@
+-- `commit::redraw_row` meets its contract.
+use Prim.Native.Nat.{_+_, _-_, _*_}
+use mathlib.Core.Path.{sym, _∙_}
+use denote.Ref.{now}
+use lib.ListN.{take, drop}
+use borrow.Author.Needs.{needs}
+use Rattle.model.specs.Marks.{markBytes}
+use Rattle.model.proofs.Views.{length-seen}
+use Rattle.planes.proofs.Splices.{part-row, part-length}
+use Rattle.row.proofs.Wholes.{ready-seen}
+use Rattle.commit.proofs.Lent.{redrawn-row}
+use Rattle.commit.proofs.redraw_row.Statement.{statement}
+use Rattle.commit.proofs.redraw_row.Tie as tie
+
+mul-base : tie.Need-mul-base
+mul-base c = search needs
+
+add-end : tie.Need-add-end
+add-end c = search needs
+
+add-bytes : tie.Need-add-bytes
+add-bytes c = search needs
+
+mul-byte : tie.Need-mul-byte
+mul-byte c = search needs
+
+add-last : tie.Need-add-last
+add-last c = search needs
+
+sub-redraw : tie.Need-sub-redraw
+sub-redraw c = search needs
+
+part-redraw-start : tie.Need-part-redraw-start
+part-redraw-start c = search needs
+
+part-redraw-end : tie.Need-part-redraw-end
+part-redraw-end c = search needs
+
+sub-redraw-2 : tie.Need-sub-redraw-2
+sub-redraw-2 c = search needs
+
+part-redraw-start-2 : tie.Need-part-redraw-start-2
+part-redraw-start-2 c = search needs
+
+part-redraw-end-2 : tie.Need-part-redraw-end-2
+part-redraw-end-2 c = search needs
+
+sub-redraw-3 : tie.Need-sub-redraw-3
+sub-redraw-3 c = search needs
+
+part-redraw-start-3 : tie.Need-part-redraw-start-3
+part-redraw-start-3 c = search needs
+
+part-redraw-end-3 : tie.Need-part-redraw-end-3
+part-redraw-end-3 c = search needs
+
+redraw-requires : tie.Need-redraw-requires
+redraw-requires c κs =
+    let s = c .before .before .before .before .before .before .before .before .before .before in
+    let a = s .args in
+    let et = part-row (now (a .texture)) (a .w) (a .y) in
+    let ed = part-row (now (a .depths)) (a .w) (a .y) in
+    let lt = part-length (now (a .texture)) (a .y * a .w) (a .w) (s .pre .1 .1 .0 .0) in
+    let ld = part-length (now (a .depths)) (a .y * a .w) (a .w) (s .pre .1 .1 .0 .1) in
+    let lm = part-length (now (a .marks)) (a .y * markBytes (a .w)) (markBytes (a .w)) (s .pre .1 .1 .1 .1 .1) in (
+      ready-seen (a .right) (now (a .table)) _ _ (record { table = s .pre .0 .0; texture = lt ∙ sym ld; some = rw ld (s .pre .0 .1 .0); most = rw ld (s .pre .0 .1 .1) }),
+      (
+        (s .pre .1 .0 .0, (rw (length-seen (a .right) (take (a .y * a .w + a .w - a .y * a .w) (drop (a .y * a .w) (now (a .depths)))), ld) (s .pre .1 .0 .1 .0), rw ed (s .pre .1 .0 .1 .1))),
+        (rw ld (s .pre .1 .1 .1 .0), (rw ld (s .pre .1 .1 .1 .1 .0), rw ld lm)),
+      ),
+    )
+
+same-length : tie.Need-same-length
+same-length c = search needs
+
+same-length-2 : tie.Need-same-length-2
+same-length-2 c = search needs
+
+same-length-3 : tie.Need-same-length-3
+same-length-3 c = search needs
+
+returns : tie.Need-returns
+returns c =
+    let s = c .before .before .before .before .before .before .before .before .before .before .before .before .before .before .before .before .before in
+    let a = s .args in
+    let rd = c .before .before .before .before .before .before .redraw in
+    redrawn-row (a .right) (a .w) (a .y) (a .columns) (a .low) (a .high) _ _ (now (a .table)) (now (a .texture)) (now (a .depths)) (now (a .samples)) (now (a .fronts)) (now (a .marks)) _ _ (rd .last .1 .1 .1 .1 .1 .1 .1 .1 .1 .1 .0)
+    (part-row (now (a .texture)) (a .w) (a .y)) (part-row (now (a .depths)) (a .w) (a .y)) (part-row (now (a .marks)) (markBytes (a .w)) (a .y))
+    (part-length (now (a .depths)) (a .y * a .w) (a .w) (s .pre .1 .1 .0 .1)) (s .pre .1 .1 .1 .1 .1)
+    (rd .kept .1 .1 .1 .1 .1 .1 .1 .1 .1 .1 .0 ∙ part-length (now (a .marks)) (a .y * markBytes (a .w)) (markBytes (a .w)) (s .pre .1 .1 .1 .1 .1)) (rd .ensures)
+
+pub redraw-row-spec : {M : Type 1} → statement M
+redraw-row-spec =
+    tie.close
+    (tie.spec
+    mul-base
+    add-end
+    add-bytes
+    mul-byte
+    add-last
+    sub-redraw
+    part-redraw-start
+    part-redraw-end
+    sub-redraw-2
+    part-redraw-start-2
+    part-redraw-end-2
+    sub-redraw-3
+    part-redraw-start-3
+    part-redraw-end-3
+    redraw-requires
+    same-length
+    same-length-2
+    same-length-3
+    returns)

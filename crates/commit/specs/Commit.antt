@@ -1,0 +1,130 @@
+-- What SET writes of one view, row by row (document 01, "The span of an edit").
+--
+-- The planes may hold anything. What is written is decided for any of them; that it is the truth is promised where they held it.
+use Prim.Native.Nat.{ℕ, _+_, _-_, _*_, _<_, _≤_}
+use mathlib.Core.Bool.{Bool}
+use mathlib.Core.Path.{_≡_}
+use mathlib.Core.List.{List}
+use mathlib.Core.Logic.{_⊎_}
+use lib.ListN.{length, getD}
+use lib.IntN.{ℤ, pos}
+use Rattle.model.specs.declared.Pixel.{Pixel}
+use Rattle.model.specs.Lists.{listOf, rowOf}
+use Rattle.model.specs.Row.{Line, line, Row, place, limit, signed}
+use Rattle.model.specs.Views.{seen, viewRow}
+use Rattle.model.specs.Marks.{markBytes, packRow}
+use Rattle.model.specs.Planes.{View, viewRows}
+use Rattle.model.specs.Span.{spanLow, firstColumn}
+use Rattle.planes.specs.Parts.{splice, Filled}
+use Rattle.signed.specs.Limits.{raisedOf}
+use Rattle.pixel.specs.Pairs.{nextPlace}
+use Rattle.marks.specs.Puts.{putMarks, heldPixel}
+use Rattle.row.specs.Drawing.{firstAt, pixelBelow, limitBelow}
+
+-- ---- the planes of a view
+
+-- the planes of one view with its texture and depths, w wide and h high
+pub record Sized (w h : ℕ) (picture d : List ℕ) (v : View) : Type 0 where
+  pub texture : length picture ≡ w * h
+  pub depths : length d ≡ w * h
+  pub samples : length (v .samples) ≡ w * h
+  pub fronts : length (v .fronts) ≡ w * h
+  pub limits : length (v .limits) ≡ w * h
+  pub marks : length (v .marks) ≡ markBytes w * h
+
+-- row y lies within them
+pub record RowIn (w y : ℕ) (picture d : List ℕ) (v : View) : Type 0 where
+  pub texture : y * w + w ≤ length picture
+  pub depths : y * w + w ≤ length d
+  pub samples : y * w + w ≤ length (v .samples)
+  pub fronts : y * w + w ≤ length (v .fronts)
+  pub limits : y * w + w ≤ length (v .limits)
+  pub marks : y * markBytes w + markBytes w ≤ length (v .marks)
+
+-- row y of the depths d, drawn afresh
+abbrev pub drawnRow : Bool → List ℕ → List ℕ → ℕ → List ℕ → ℕ → Row
+drawnRow right t texture w d y = viewRow right (line t (rowOf texture w y) (rowOf d w y))
+
+-- row y of a view's planes is the fresh drawing of row y of its depths
+pub record SoundRow (right : Bool) (t texture : List ℕ) (w : ℕ) (d : List ℕ) (v : View) (y : ℕ) : Type 0 where
+  pub samples : rowOf (v .samples) w y ≡ drawnRow right t texture w d y .samples
+  pub fronts : rowOf (v .fronts) w y ≡ drawnRow right t texture w d y .fronts
+  pub limits : rowOf (v .limits) w y ≡ drawnRow right t texture w d y .limits
+  pub marks : rowOf (v .marks) (markBytes w) y ≡ packRow (markBytes w) (drawnRow right t texture w d y .marks)
+
+-- what planes of samples, fronts and marks hold at entry i of row y
+abbrev pub heldAt : ℕ → List ℕ → List ℕ → List ℕ → ℕ → ℕ → Pixel
+heldAt w s f m y = heldPixel (rowOf s w y) (rowOf f w y) (rowOf m (markBytes w) y)
+
+-- and what a view's do
+abbrev pub heldIn : ℕ → View → ℕ → ℕ → Pixel
+heldIn w v = heldAt w (v .samples) (v .fronts) (v .marks)
+
+-- ---- one row
+
+-- The candidate is written at entry x of a row of depths, and `least` is the low end of the span; a is the candidate's first column,
+-- as the view reads the row.
+pub record Rewritten (right : Bool) (t : List ℕ) (x a least : ℕ) (candidate d d′ : List ℕ) : Type 0 where
+  pub depths : d′ ≡ splice d x candidate
+  pub low : least ≡ spanLow (place t (seen right d)) (place t (seen right d′)) a (a + length candidate - 1)
+
+-- What is taken for the limit of column n, the high end of the span: at most the column's own place, and the limit where the held one is
+-- true. The rows of depths d and limits e are as the view reads them.
+pub record High (t d : List ℕ) (n high : ℕ) (e : List ℤ) : Type 0 where
+  pub roof : high ≤ nextPlace t d (n - 1)
+  pub exact : (n < length d → getD e n (pos 0) ≡ signed (limit (place t d) (length d) n)) → high ≡ limit (place t d) (length d) n
+
+-- The limits of the columns below n are written, down to column `stop`. Left of column a, once the held limit is the one to be written,
+-- so are all before it. The rows are as the view reads them.
+pub record Relimited (t d : List ℕ) (a n high : ℕ) (e e′ : List ℤ) : Type 0 where
+  pub stop : ℕ
+  pub order : stop ≤ a
+  pub written : Filled (pos 0) (λ c. signed (limitBelow (place t d) high n c)) stop n e e′
+  pub settled : 0 < stop → raisedOf (getD e (stop - 1) (pos 0)) ≡ limitBelow (place t d) high n (stop - 1)
+
+-- the high end, and the limits with it
+pub record Limited (t d : List ℕ) (a n high : ℕ) (e e′ : List ℤ) : Type 0 where
+  pub top : High t d n high e
+  pub limits : Relimited t d a n high e e′
+
+-- Row y of the depths d and of the limits e, with the candidate written from column x on: n is the column after the candidate's last, as
+-- the view reads the row, and the span runs from low to high.
+pub record Changed (right : Bool) (t : List ℕ) (w y x : ℕ) (candidate d d′ : List ℕ) (e e′ : List ℤ) (n low high : ℕ) : Type 0 where
+  pub columns : n ≡ firstColumn right w x (length candidate) + length candidate
+  pub depths : d′ ≡ splice d (y * w + x) candidate
+  pub bottom : low ≡ spanLow (place t (seen right (rowOf d w y))) (place t (seen right (rowOf d′ w y))) (firstColumn right w x (length candidate)) (n - 1)
+  pub top : High t (seen right (rowOf d′ w y)) n high (seen right (rowOf e w y))
+  pub limits : Relimited t (seen right (rowOf d′ w y)) (firstColumn right w x (length candidate)) n high (seen right (rowOf e w y)) (seen right (rowOf e′ w y))
+  pub others : (k : ℕ) → (k ≡ y → ⊥) → rowOf e′ w k ≡ rowOf e w k
+
+-- what the span from low to high shows, drawn from the columns below n, in the order of the row's entries
+unfoldable pub spanShown : (Pixel → ℕ) → Bool → Line → ℕ → ℕ → ℕ → List ℕ
+spanShown g right l n low high = seen right (listOf (λ i. g (pixelBelow l n (firstAt low + i))) (firstAt high - firstAt low))
+
+-- The span's entries, `from` up to `to`, in a row of w; an empty span has none.
+pub record Stretched (right : Bool) (w low high from to : ℕ) : Type 0 where
+  pub size : to ≡ from + (firstAt high - firstAt low)
+  pub within : to ≤ w
+  pub first : firstAt low < firstAt high → from ≡ firstColumn right w (firstAt low) (firstAt high - firstAt low)
+
+-- The span is drawn into row y of the samples and fronts, and its marks are put into the row of marks m.
+pub record Redrawn (right : Bool) (l : Line) (w y n low high from to : ℕ) (s f m s′ f′ m′ : List ℕ) : Type 0 where
+  pub stretched : Stretched right w low high from to
+  pub samples : s′ ≡ splice s (y * w + from) (spanShown (λ q. q .sample) right l n low high)
+  pub fronts : f′ ≡ splice f (y * w + from) (spanShown (λ q. q .front) right l n low high)
+  pub marks : m′ ≡ putMarks m from (spanShown (λ q. q .mark) right l n low high) (firstAt high - firstAt low)
+
+-- The same, with the plane of marks: no other row of it changes.
+pub record RowRedrawn (right : Bool) (l : Line) (w y n low high from to : ℕ) (s f m s′ f′ m′ : List ℕ) : Type 0 where
+  pub drawn : Redrawn right l w y n low high from to s f (rowOf m (markBytes w) y) s′ f′ (rowOf m′ (markBytes w) y)
+  pub others : (k : ℕ) → (k ≡ y → ⊥) → rowOf m′ (markBytes w) k ≡ rowOf m (markBytes w) k
+
+-- Row y of one view is committed: the candidate stands at its column x, and every row that was sound is sound again. No other row changes,
+-- and of this one only the entries `from` up to `to` are drawn anew.
+pub record RowCommitted (right : Bool) (t texture : List ℕ) (w y x : ℕ) (candidate d d′ : List ℕ) (v v′ : View) (from to : ℕ) : Type 0 where
+  pub depths : d′ ≡ splice d (y * w + x) candidate
+  pub sound : (k : ℕ) → SoundRow right t texture w d v k → SoundRow right t texture w d′ v′ k
+  pub others : (k : ℕ) → (k ≡ y → ⊥) → viewRows w v′ k ≡ viewRows w v k
+  pub order : from ≤ to
+  pub within : to ≤ w
+  pub kept : SoundRow right t texture w d v y → (i : ℕ) → i < w → (i < from) ⊎ (to ≤ i) → heldIn w v′ y i ≡ heldIn w v y i

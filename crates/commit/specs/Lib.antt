@@ -1,0 +1,2 @@
+-- What SET writes of one view.
+pub mod Commit

@@ -1,0 +1,317 @@
+// What SET writes of one view, row by row: the depths, the limits up to the block, and the span of samples, front depths and marks.
+ghost use mathlib.Core.Path.{_≡_};
+ghost use mathlib.Core.Bool.{true};
+ghost use Prim.Native.Nat.{_+_, _-_, _*_, _≤_, _<_};
+ghost use lib.ListN.{length, getD};
+ghost use lib.IntN.{pos};
+ghost use Rattle.model.specs.Lists.{rowOf};
+ghost use Rattle.model.specs.Row.{line};
+ghost use Rattle.model.specs.Views.{seen};
+ghost use Rattle.model.specs.Marks.{markBytes};
+ghost use Rattle.model.specs.Planes.{view};
+ghost use Rattle.model.specs.Refusals.{tableOk};
+ghost use Rattle.signed.specs.Limits.{raisedOf};
+ghost use Rattle.pixel.specs.Pairs.{nextPlace};
+ghost use Rattle.row.specs.Drawing.{Ready};
+ghost use Rattle.commit.specs.Commit.{RowIn, Rewritten, High, Relimited, Limited, Changed, Redrawn, RowRedrawn, RowCommitted};
+
+// An edit of a row: the column after its last, as the view reads the row, and the two ends of its span.
+pub struct Edit {
+    pub columns: usize,
+    pub low: u32,
+    pub high: u32,
+}
+
+// The entries of a row from `from` up to `to`.
+pub struct Stretch {
+    pub from: usize,
+    pub to: usize,
+}
+
+// Copies `values` into a part of that length.
+fn write(part: &mut [u8], values: &[u8])
+    requires { ⌜ length (now part) ≡ length (now values) ⌝ }
+    ensures { λ _. ⌜ now (part .exit) ≡ now (values .entry) ⌝ }
+{
+    let mut i = 0;
+    while i < values.len() {
+        part[i] = values[i];
+        i += 1;
+    }
+}
+
+// Writes the candidate into a row of depths from `column` on, and answers the low end of the span. `first` is its first column, as the
+// view reads the row.
+fn edit_row(
+    right: bool,
+    table: &[u16; 256],
+    column: usize,
+    first: usize,
+    candidate: &[u8],
+    depths: &mut [u8],
+) -> u32
+    requires { ⌜ (tableOk (now table) ≡ true) × (length (now depths) ≤ 4096) ⌝ }
+    requires { ⌜ (0 < length (now candidate)) × ((column + length (now candidate) ≤ length (now depths)) × (first + length (now candidate) ≤ length (now depths))) ⌝ }
+    ensures { λ r. ⌜ Rewritten right (now (table .entry)) column first r (now (candidate .entry)) (now (depths .entry)) (now (depths .exit)) ⌝ }
+{
+    let n = candidate.len();
+    let old = row::row_low(right, table, depths, first, n);
+    let end = column + n;
+    write(&mut depths[column..end], candidate);
+    row::least_place(right, table, depths, first, n, old)
+}
+
+// The limit that is held for column c, raised.
+fn held_limit(right: bool, limits: &[i16], c: usize) -> u32
+    requires { ⌜ c < length (now limits) ⌝ }
+    ensures { λ r. ⌜ r ≡ raisedOf (getD (seen right (now (limits .entry))) c (pos 0)) ⌝ }
+{
+    let i = row::entry(right, limits.len(), c);
+    signed::raised_of(limits[i])
+}
+
+// What is taken for the limit of column `columns`: the held one, or the column's own place where that is less, or the row's end.
+fn high_of(right: bool, table: &[u16; 256], depths: &[u8], limits: &[i16], columns: usize) -> u32
+    requires { ⌜ (tableOk (now table) ≡ true) × (length (now depths) ≤ 4096) ⌝ }
+    requires { ⌜ (length (now limits) ≡ length (now depths)) × ((0 < columns) × (columns ≤ length (now depths))) ⌝ }
+    ensures { λ r. ⌜ High (now (table .entry)) (seen right (now (depths .entry))) columns r (seen right (now (limits .entry))) ⌝ }
+{
+    let w = depths.len();
+    if w <= columns {
+        return 4 * w as u32 + 1024;
+    }
+    let held = held_limit(right, limits, columns);
+    let own = row::place_of(right, table, depths, columns);
+    row::least(held, own)
+}
+
+// Writes the limits of the columns below `columns`, from the right. Left of column `first` it stops where the held limit is right already:
+// those before it are too.
+fn write_limits(
+    right: bool,
+    table: &[u16; 256],
+    depths: &[u8],
+    first: usize,
+    columns: usize,
+    high: u32,
+    limits: &mut [i16],
+)
+    requires { ⌜ (tableOk (now table) ≡ true) × (high ≤ 17408) ⌝ }
+    requires { ⌜ (columns ≤ 4096) × (columns ≤ length (now limits)) ⌝ }
+    ensures { λ _. ⌜ Relimited (now (table .entry)) (seen right (now (depths .entry))) first columns high (seen right (now (limits .entry))) (seen right (now (limits .exit))) ⌝ }
+{
+    let mut c = columns;
+    let mut top = high;
+    while 0 < c {
+        c -= 1;
+        let here = row::place_of(right, table, depths, c);
+        top = row::least(here, top);
+        if c < first {
+            if held_limit(right, limits, c) == top {
+                return;
+            }
+        }
+        row::put_limit(right, limits, c, signed::limit_of(top));
+    }
+}
+
+// Brings a row's limits up to date, and answers the high end of the span.
+fn update_limits(
+    right: bool,
+    table: &[u16; 256],
+    depths: &[u8],
+    first: usize,
+    columns: usize,
+    limits: &mut [i16],
+) -> u32
+    requires { ⌜ (tableOk (now table) ≡ true) × (length (now depths) ≤ 4096) ⌝ }
+    requires { ⌜ (length (now limits) ≡ length (now depths)) × ((0 < columns) × (columns ≤ length (now depths))) ⌝ }
+    ensures { λ r. ⌜ Limited (now (table .entry)) (seen right (now (depths .entry))) first columns r (seen right (now (limits .entry))) (seen right (now (limits .exit))) ⌝ }
+{
+    let high = high_of(right, table, depths, limits, columns);
+    write_limits(right, table, depths, first, columns, high, limits);
+    high
+}
+
+// Writes the candidate into row y of the depths from `column` on, and brings the row's limits up to date.
+fn change_row(
+    right: bool,
+    table: &[u16; 256],
+    w: usize,
+    y: usize,
+    column: usize,
+    candidate: &[u8],
+    depths: &mut [u8],
+    limits: &mut [i16],
+) -> Edit
+    requires { ⌜ (tableOk (now table) ≡ true) × (w ≤ 4096) ⌝ }
+    requires { ⌜ (0 < length (now candidate)) × (column + length (now candidate) ≤ w) ⌝ }
+    requires { ⌜ (y * w + w ≤ length (now depths)) × (y * w + w ≤ length (now limits)) ⌝ }
+    ensures { λ r. ⌜ Changed right (now (table .entry)) w y column (now (candidate .entry)) (now (depths .entry)) (now (depths .exit)) (now (limits .entry)) (now (limits .exit)) (r .columns) (r .low) (r .high) ⌝ }
+{
+    let base = y * w;
+    let end = base + w;
+    let n = candidate.len();
+    let stop = column + n;
+    let first = row::part_start(right, w, column, stop);
+    let columns = first + n;
+    let low = edit_row(
+        right,
+        table,
+        column,
+        first,
+        candidate,
+        &mut depths[base..end],
+    );
+    let high = update_limits(
+        right,
+        table,
+        &depths[base..end],
+        first,
+        columns,
+        &mut limits[base..end],
+    );
+    Edit { columns, low, high }
+}
+
+// Room for the marks of a row.
+fn room() -> [u8; 4096]
+    ensures { λ r. ⌜ 4096 ≡ length r ⌝ }
+{
+    [0u8; 4096]
+}
+
+// Draws the span from `low` to `high` of row y from the columns below `columns`, and answers its entries. Of samples and fronts only the
+// span's own stretch is lent for writing.
+fn redraw(
+    right: bool,
+    table: &[u16; 256],
+    texture: &[u8],
+    depths: &[u8],
+    columns: usize,
+    low: u32,
+    high: u32,
+    y: usize,
+    samples: &mut [u8],
+    fronts: &mut [u8],
+    marks: &mut [u8],
+) -> Stretch
+    requires { ⌜ Ready (line (now table) (seen right (now texture)) (seen right (now depths))) ⌝ }
+    requires { ⌜ (0 < columns) × ((columns ≤ length (seen right (now depths))) × (high ≤ nextPlace (now table) (seen right (now depths)) (columns - 1))) ⌝ }
+    requires { ⌜ (y * length (now depths) + length (now depths) ≤ length (now samples)) × ((y * length (now depths) + length (now depths) ≤ length (now fronts)) × (length (now marks) ≡ markBytes (length (now depths)))) ⌝ }
+    ensures { λ r. ⌜ Redrawn right (line (now (table .entry)) (seen right (now (texture .entry))) (seen right (now (depths .entry)))) (length (now (depths .entry))) y columns low high (r .from) (r .to)
+        (now (samples .entry)) (now (fronts .entry)) (now (marks .entry)) (now (samples .exit)) (now (fronts .exit)) (now (marks .exit)) ⌝ }
+{
+    let start = row::first_at(low);
+    let end = row::first_at(high);
+    if end <= start {
+        return Stretch { from: 0, to: 0 };
+    }
+    let w = depths.len();
+    let n = end - start;
+    let at = row::part_start(right, w, start, end);
+    let from = y * w + at;
+    let to = from + n;
+    let mut flags = room();
+    row::draw_span(
+        right,
+        table,
+        texture,
+        depths,
+        columns,
+        high,
+        start,
+        &mut samples[from..to],
+        &mut fronts[from..to],
+        &mut flags[..n],
+    );
+    marks::put_marks(marks, at, &flags[..n]);
+    Stretch {
+        from: at,
+        to: at + n,
+    }
+}
+
+// The same for planes: the row's texture, depths and marks are lent.
+fn redraw_row(
+    right: bool,
+    table: &[u16; 256],
+    texture: &[u8],
+    depths: &[u8],
+    w: usize,
+    y: usize,
+    columns: usize,
+    low: u32,
+    high: u32,
+    samples: &mut [u8],
+    fronts: &mut [u8],
+    marks: &mut [u8],
+) -> Stretch
+    requires { ⌜ (tableOk (now table) ≡ true) × ((0 < w) × (w ≤ 4096)) ⌝ }
+    requires { ⌜ (0 < columns) × ((columns ≤ w) × (high ≤ nextPlace (now table) (seen right (rowOf (now depths) w y)) (columns - 1))) ⌝ }
+    requires { ⌜ (y * w + w ≤ length (now texture)) × (y * w + w ≤ length (now depths)) ⌝ }
+    requires { ⌜ (y * w + w ≤ length (now samples)) × ((y * w + w ≤ length (now fronts)) × (y * markBytes w + markBytes w ≤ length (now marks))) ⌝ }
+    ensures { λ r. ⌜ RowRedrawn right (line (now (table .entry)) (seen right (rowOf (now (texture .entry)) w y)) (seen right (rowOf (now (depths .entry)) w y))) w y columns low high (r .from) (r .to)
+        (now (samples .entry)) (now (fronts .entry)) (now (marks .entry)) (now (samples .exit)) (now (fronts .exit)) (now (marks .exit)) ⌝ }
+{
+    let base = y * w;
+    let end = base + w;
+    let bytes = (w + 7) / 8;
+    let byte = y * bytes;
+    let last = byte + bytes;
+    redraw(
+        right,
+        table,
+        &texture[base..end],
+        &depths[base..end],
+        columns,
+        low,
+        high,
+        y,
+        samples,
+        fronts,
+        &mut marks[byte..last],
+    )
+}
+
+// Writes the candidate into row y from `column` on, and brings the view's planes up to date. Answers the entries that are drawn anew.
+pub fn commit_row(
+    right: bool,
+    table: &[u16; 256],
+    texture: &[u8],
+    w: usize,
+    y: usize,
+    column: usize,
+    candidate: &[u8],
+    depths: &mut [u8],
+    samples: &mut [u8],
+    fronts: &mut [u8],
+    limits: &mut [i16],
+    marks: &mut [u8],
+) -> Stretch
+    requires { ⌜ (tableOk (now table) ≡ true) × (w ≤ 4096) ⌝ }
+    requires { ⌜ RowIn w y (now texture) (now depths) (view (now samples) (now fronts) (now limits) (now marks)) ⌝ }
+    requires { ⌜ (0 < length (now candidate)) × (column + length (now candidate) ≤ w) ⌝ }
+    ensures { λ r. ⌜ RowCommitted right (now (table .entry)) (now (texture .entry)) w y column (now (candidate .entry)) (now (depths .entry)) (now (depths .exit))
+        (view (now (samples .entry)) (now (fronts .entry)) (now (limits .entry)) (now (marks .entry)))
+        (view (now (samples .exit)) (now (fronts .exit)) (now (limits .exit)) (now (marks .exit))) (r .from) (r .to) ⌝ }
+{
+    let edit = change_row(right, table, w, y, column, candidate, depths, limits);
+    let columns = edit.columns;
+    let low = edit.low;
+    let high = edit.high;
+    redraw_row(
+        right,
+        table,
+        texture,
+        depths,
+        w,
+        y,
+        columns,
+        low,
+        high,
+        samples,
+        fronts,
+        marks,
+    )
+}

@@ -1,0 +1,2 @@
+-- Why a decision is what it promises.
+pub mod Ways

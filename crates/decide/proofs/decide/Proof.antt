@@ -1,0 +1,100 @@
+use Prim.Native.Nat.{ℕ}
+use mathlib.Core.Path.{_≡_, sym, ap, _∙_}
+use lib.ListN.{length}
+use Rattle.model.specs.declared.Settings.{Settings}
+use Rattle.model.specs.Planes.{Pictures, Depths, Held, pictures, depths}
+use Rattle.model.specs.Refusals.{numberOf, earlyNumber}
+use Rattle.model.proofs.Totals.{BytePictures}
+use Rattle.validate.proofs.Numbers.{early-number}
+use Rattle.decide.specs.Decided.{settingsOf, heldOf}
+use Rattle.decide.proofs.Ways.{bytes, passed, tried-total, decided-early, decided-late}
+use borrow.Author.Needs.{needs}
+use Rattle.decide.proofs.decide.Statement.{statement}
+use Rattle.decide.proofs.decide.Tie as tie
+
+-- what the call is lent, with any total in the settings
+abbrev settings : tie.Start → ℕ → Settings
+settings c total =
+    let a = c .args in settingsOf (a .w) (a .h) (a .leftTable .now) (a .rightTable .now) (a .share) (a .tolerance) total
+
+abbrev shown : tie.Start → Pictures
+shown c = let a = c .args in pictures (a .left .now) (a .right .now) (a .reference .now)
+
+abbrev lent : tie.Start → Depths
+lent c = let a = c .args in depths (a .leftDepths .now) (a .rightDepths .now)
+
+abbrev kept : tie.Start → Held
+kept c =
+    let a = c .args in
+    heldOf (a .leftSamples .now) (a .leftFronts .now) (a .leftLimits .now) (a .leftMarks .now) (a .rightSamples .now) (a .rightFronts .now)
+    (a .rightLimits .now) (a .rightMarks .now) (a .combined .now)
+
+abbrev start : tie.After-early → tie.Start
+start c = c .before .before .before .before .before .before .before .before .before .before .before .before .before .before
+
+-- the early refusal that was found
+found : (c : tie.After-early) (total : ℕ) → numberOf (c .early .result) ≡ earlyNumber (settings (start c) total) (shown (start c)) (lent (start c)) (kept (start c)) (start c .args .view) (start c .args .block) (length (start c .args .candidate .now))
+found c total =
+    c .early .ensures
+    ∙ early-number (settings (start c) total) (shown (start c)) (lent (start c)) (kept (start c)) (start c .args .view) (start c .args .block) (length (start c .args .candidate .now))
+
+-- none was found
+none : (c : tie.Else1) (total : ℕ) → let a = start (c .before .before) in earlyNumber (settings a total) (shown a) (lent a) (kept a) (a .args .view) (a .args .block) (length (a .args .candidate .now)) ≡ 0
+none c total = sym (found (c .before .before) total) ∙ sym (c .before .number .ensures) ∙ c .if1 .left
+
+byte-pictures : (c : tie.After-early) → BytePictures (shown (start c))
+byte-pictures c =
+    record {
+      left = bytes _ (c .before .before .before .before .before .before .before .before .before .before .before .before .before .shared-slice-known .given);
+      right = bytes _ (c .before .before .before .before .before .before .before .before .before .before .before .before .shared-slice-known2 .given);
+      reference = bytes _ (c .before .before .before .before .before .before .before .before .before .before .before .shared-slice-known3 .given);
+    }
+
+early-requires : tie.Need-early-requires
+early-requires c κs = search needs
+
+number-requires : tie.Need-number-requires
+number-requires c κs = search needs
+
+refused-requires : tie.Need-refused-requires
+refused-requires c κs = search needs
+
+returns : tie.Need-returns
+returns c =
+    let r = c .refused .ensures in
+    let n = ap numberOf (r .0) in
+    decided-early _ _ _ _ _ _ _ _ (n ∙ found (c .before .before .before) _) (λ z. c .before .if1 .taken (c .before .before .number .ensures ∙ sym n ∙ z)) (r .1 .0) (r .1 .1)
+
+try-candidate-requires : tie.Need-try-candidate-requires
+try-candidate-requires c κs = none c 0
+
+most-total-requires : tie.Need-most-total-requires
+most-total-requires c κs =
+    let a = start (c .before .before .before) in
+    let f = passed (settings a 0) (shown a) (lent a) (kept a) (a .args .view) (a .args .block) (a .args .candidate .now) (none (c .before) 0) in
+    (f .common .size .w .most, f .common .size .h .most)
+
+judge-requires : tie.Need-judge-requires
+judge-requires c κs = search needs
+
+returns-2 : tie.Need-returns-2
+returns-2 c =
+    let e = c .before .before .before in
+    let a = start (e .before .before) in
+    let s = settings a (a .args .total) in
+    decided-late s (shown a) (lent a) (kept a) (a .args .view) (a .args .block) (a .args .candidate .now) (c .judge .result) (none e (a .args .total)) (byte-pictures (e .before .before))
+    (tried-total s (shown a) (lent a) (kept a) (a .args .view) (a .args .block) (a .args .candidate .now) 0 (c .before .before .try-candidate .ensures))
+    (rw (c .before .most-total .ensures .0) at (c .judge .ensures))
+
+pub decide-spec : {M : Type 1} → statement M
+decide-spec =
+    tie.close
+    (tie.spec
+    early-requires
+    number-requires
+    refused-requires
+    returns
+    try-candidate-requires
+    most-total-requires
+    judge-requires
+    returns-2)

@@ -1,0 +1,2 @@
+-- What GET and SET decide before either of them answers.
+pub mod Decided

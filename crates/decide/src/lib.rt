@@ -1,0 +1,244 @@
+// What GET and SET decide: the first refusal that applies, or the change of the total.
+use model::Block;
+use model::Refusal;
+use trial::Totals;
+use validate::Lengths;
+use validate::ViewLengths;
+ghost use mathlib.Core.Path.{_≡_};
+ghost use Prim.Native.Nat.{_*_, _≤_};
+ghost use lib.ListN.{length};
+ghost use lib.IntN.{pos};
+ghost use Rattle.model.specs.Planes.{pictures, depths};
+ghost use Rattle.model.specs.Refusals.{earlyNumber};
+ghost use Rattle.decide.specs.Decided.{settingsOf, heldOf, Tried, Judged, Decided};
+
+// The first refusal that applies, the change of the total, and the total after the call. A refused call has a change of 0.
+pub struct Decision {
+    pub refusal: Refusal,
+    pub change: i64,
+    pub total: u64,
+}
+
+// A refused call changes nothing.
+fn refused(refusal: Refusal, total: u64) -> Decision
+    ensures { λ r. ⌜ (r .refusal ≡ refusal) × ((r .change ≡ pos 0) × (r .total ≡ total)) ⌝ }
+{
+    Decision {
+        refusal: refusal,
+        change: 0,
+        total: total,
+    }
+}
+
+// The highest total: 65,025 for each position.
+fn most_total(w: u32, h: u32) -> u64
+    requires { ⌜ (w ≤ 4096) × (h ≤ 4096) ⌝ }
+    ensures { λ r. ⌜ (r ≡ 65025 * (w * h)) × (r ≤ 65025 * 16777216) ⌝ }
+{
+    65025 * ((w as u64) * (h as u64))
+}
+
+// 8 where the total with the change is out of range, else the change.
+fn judge(total: u64, old: u64, new: u64, most: u64) -> Decision
+    requires { ⌜ (old ≤ 65025 * 16777216) × ((new ≤ 65025 * 16777216) × (most ≤ 65025 * 16777216)) ⌝ }
+    ensures { λ r. ⌜ Judged total old new most r ⌝ }
+{
+    if !signed::in_range(total, old, new, most) {
+        return refused(Refusal::Total, total);
+    }
+    let change = signed::difference(new, old);
+    let moved = signed::moved_total(total, old, new);
+    Decision {
+        refusal: Refusal::None,
+        change: change,
+        total: moved,
+    }
+}
+
+// The squared errors in the block's spans, summed as the combined picture is held and as the candidate would make it.
+fn try_candidate(
+    w: u32,
+    h: u32,
+    leftTable: &[u16; 256],
+    rightTable: &[u16; 256],
+    share: u8,
+    tolerance: u8,
+    left: &[u8],
+    right: &[u8],
+    reference: &[u8],
+    leftDepths: &[u8],
+    rightDepths: &[u8],
+    leftSamples: &[u8],
+    leftFronts: &[u8],
+    leftLimits: &[i16],
+    leftMarks: &[u8],
+    rightSamples: &[u8],
+    rightFronts: &[u8],
+    rightLimits: &[i16],
+    rightMarks: &[u8],
+    combined: &[u8],
+    view: u32,
+    block: Block,
+    candidate: &[u8],
+) -> Totals
+    requires { ⌜ earlyNumber (settingsOf w h (now leftTable) (now rightTable) share tolerance 0)
+        (pictures (now left) (now right) (now reference))
+        (depths (now leftDepths) (now rightDepths))
+        (heldOf (now leftSamples) (now leftFronts) (now leftLimits) (now leftMarks) (now rightSamples) (now rightFronts) (now rightLimits) (now rightMarks) (now combined))
+        view block (length (now candidate)) ≡ 0 ⌝ }
+    ensures { λ r. ⌜ Tried (settingsOf w h (now (leftTable .entry)) (now (rightTable .entry)) share tolerance 0)
+        (pictures (now (left .entry)) (now (right .entry)) (now (reference .entry)))
+        (depths (now (leftDepths .entry)) (now (rightDepths .entry)))
+        (heldOf (now (leftSamples .entry)) (now (leftFronts .entry)) (now (leftLimits .entry)) (now (leftMarks .entry)) (now (rightSamples .entry)) (now (rightFronts .entry)) (now (rightLimits .entry)) (now (rightMarks .entry)) (now (combined .entry)))
+        view block (now (candidate .entry)) (r .old) (r .new) ⌝ }
+{
+    let squares = sums::squares();
+    let columns = w as usize;
+    let rows = h as usize;
+    let column = block.column as usize;
+    let row = block.row as usize;
+    let width = block.width as usize;
+    let height = block.height as usize;
+    if view == 1 {
+        return trial::trial_block(
+            true,
+            rightTable,
+            &squares,
+            share,
+            tolerance,
+            columns,
+            rows,
+            column,
+            row,
+            width,
+            height,
+            right,
+            rightDepths,
+            rightLimits,
+            candidate,
+            leftSamples,
+            leftFronts,
+            leftMarks,
+            combined,
+            reference,
+        );
+    }
+    trial::trial_block(
+        false,
+        leftTable,
+        &squares,
+        share,
+        tolerance,
+        columns,
+        rows,
+        column,
+        row,
+        width,
+        height,
+        left,
+        leftDepths,
+        leftLimits,
+        candidate,
+        rightSamples,
+        rightFronts,
+        rightMarks,
+        combined,
+        reference,
+    )
+}
+
+// The decision on a candidate for a block of a view, by settings and planes that may be anything. Nothing is written.
+pub fn decide<'a>(
+    w: u32,
+    h: u32,
+    leftTable: &'a [u16; 256],
+    rightTable: &'a [u16; 256],
+    share: u8,
+    tolerance: u8,
+    total: u64,
+    left: &[u8],
+    right: &[u8],
+    reference: &[u8],
+    leftDepths: &[u8],
+    rightDepths: &[u8],
+    leftSamples: &[u8],
+    leftFronts: &[u8],
+    leftLimits: &[i16],
+    leftMarks: &[u8],
+    rightSamples: &[u8],
+    rightFronts: &[u8],
+    rightLimits: &[i16],
+    rightMarks: &[u8],
+    combined: &[u8],
+    view: u32,
+    block: Block,
+    candidate: &[u8],
+) -> Decision
+    ensures { λ r. ⌜ Decided (settingsOf w h (now (leftTable .entry)) (now (rightTable .entry)) share tolerance total)
+        (pictures (now (left .entry)) (now (right .entry)) (now (reference .entry)))
+        (depths (now (leftDepths .entry)) (now (rightDepths .entry)))
+        (heldOf (now (leftSamples .entry)) (now (leftFronts .entry)) (now (leftLimits .entry)) (now (leftMarks .entry)) (now (rightSamples .entry)) (now (rightFronts .entry)) (now (rightLimits .entry)) (now (rightMarks .entry)) (now (combined .entry)))
+        view block (now (candidate .entry)) r ⌝ }
+{
+    let lengths = Lengths {
+        left: ViewLengths {
+            texture: left.len(),
+            depths: leftDepths.len(),
+            samples: leftSamples.len(),
+            fronts: leftFronts.len(),
+            limits: leftLimits.len(),
+            marks: leftMarks.len(),
+        },
+        right: ViewLengths {
+            texture: right.len(),
+            depths: rightDepths.len(),
+            samples: rightSamples.len(),
+            fronts: rightFronts.len(),
+            limits: rightLimits.len(),
+            marks: rightMarks.len(),
+        },
+        reference: reference.len(),
+        combined: combined.len(),
+    };
+    let first = validate::early(
+        w,
+        h,
+        leftTable,
+        rightTable,
+        share,
+        lengths,
+        view,
+        block,
+        candidate.len(),
+    );
+    if model::number(first) != 0 {
+        return refused(first, total);
+    }
+    let sums = try_candidate(
+        w,
+        h,
+        leftTable,
+        rightTable,
+        share,
+        tolerance,
+        left,
+        right,
+        reference,
+        leftDepths,
+        rightDepths,
+        leftSamples,
+        leftFronts,
+        leftLimits,
+        leftMarks,
+        rightSamples,
+        rightFronts,
+        rightLimits,
+        rightMarks,
+        combined,
+        view,
+        block,
+        candidate,
+    );
+    let most = most_total(w, h);
+    judge(total, sums.old, sums.new, most)
+}

@@ -1,0 +1,67 @@
+// GET answers what a candidate for a block of a view would change of the total.
+use model::Block;
+use model::Settings;
+use model::Trial;
+ghost use Rattle.model.specs.Planes as planes;
+ghost use Rattle.model.specs.Promises.{GetPost};
+
+// The change of the total, or the first refusal that applies. Nothing is written.
+pub fn get(
+    settings: Settings,
+    left: &[u8],
+    right: &[u8],
+    reference: &[u8],
+    leftDepths: &[u8],
+    rightDepths: &[u8],
+    leftSamples: &[u8],
+    leftFronts: &[u8],
+    leftLimits: &[i16],
+    leftMarks: &[u8],
+    rightSamples: &[u8],
+    rightFronts: &[u8],
+    rightLimits: &[i16],
+    rightMarks: &[u8],
+    combined: &[u8],
+    view: u32,
+    block: Block,
+    candidate: &[u8],
+) -> Trial
+    ensures { λ r. ⌜ GetPost settings
+        (planes.pictures (now (left .entry)) (now (right .entry)) (now (reference .entry)))
+        (planes.depths (now (leftDepths .entry)) (now (rightDepths .entry)))
+        (planes.held (planes.view (now (leftSamples .entry)) (now (leftFronts .entry)) (now (leftLimits .entry)) (now (leftMarks .entry))) (planes.view (now (rightSamples .entry)) (now (rightFronts .entry)) (now (rightLimits .entry)) (now (rightMarks .entry))) (now (combined .entry)))
+        view block (now (candidate .entry)) r ⌝ }
+{
+    let decision = decide::decide(
+        settings.w,
+        settings.h,
+        &settings.left,
+        &settings.right,
+        settings.share,
+        settings.tolerance,
+        settings.total,
+        left,
+        right,
+        reference,
+        leftDepths,
+        rightDepths,
+        leftSamples,
+        leftFronts,
+        leftLimits,
+        leftMarks,
+        rightSamples,
+        rightFronts,
+        rightLimits,
+        rightMarks,
+        combined,
+        view,
+        block,
+        candidate,
+    );
+    let refusal = decision.refusal;
+    let change = decision.change;
+    Trial {
+        refusal: refusal,
+        change: change,
+    }
+}

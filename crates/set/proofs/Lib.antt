@@ -1,0 +1,2 @@
+-- Why SET keeps its promise.
+pub mod Writing

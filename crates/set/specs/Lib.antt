@@ -1,0 +1,2 @@
+-- What SET leaves.
+pub mod Written

@@ -1,0 +1,7 @@
+-- Why it holds: the laws of a trial, by topic.
+pub mod Candidates
+pub mod Positions
+pub mod Rows
+pub mod Pass
+pub mod Blocks
+pub mod Sound

@@ -1,0 +1,141 @@
+-- What the two sums of a row's trial tell.
+--     below-owned                                 what the columns below n show where one of them is the owner
+--     summed-none, summed-next, summed-join, summed-change      the sums grow, to the right or to the left
+--     total-positions                             a row's total, position by position as the view reads the row
+--     row-change                                  where the row holds the truth the sums tell the change of its total
+--     row-trial                                   so they are the row's answer
+use Prim.Native.Nat.{ℕ, _+_, _-_, _<_, _≤_, min}
+use mathlib.Core.Path.{_≡_, refl, sym, ap, _∙_}
+use mathlib.Core.Bool.{Bool, true, false}
+use mathlib.Core.Logic.{_⊎_, inl, inr}
+use mathlib.Core.List.{List}
+use native.Mathlib.Omega.{arith}
+use lib.ListN.{length, getD}
+use Rattle.model.specs.declared.Pixel.{Pixel}
+use Rattle.model.specs.Lists.{sumTo}
+use Rattle.model.specs.Row.{Line, width, place, placeIn, limit, quarter, ownedPixel, pixelAt}
+use Rattle.model.specs.Views.{seen, entryOf}
+use Rattle.model.specs.Combined.{squareError}
+use Rattle.model.proofs.Owners.{Owns, owner-is, place-zero}
+use Rattle.model.proofs.Spans.{edited-moved, moved-limit, span-pixel}
+use Rattle.model.proofs.Sums.{sum-next, sum-same, sum-part, sum-turn, sum-change}
+use Rattle.model.proofs.Views.{length-seen, entry-within, entry-entry}
+use Rattle.planes.specs.Parts.{splice}
+use Rattle.row.specs.Drawing.{firstAt, pixelBelow}
+use Rattle.row.proofs.Below.{below-pixel}
+use Rattle.trial.specs.Trial.{spanStart, spanStop, Own, Around, standing, tried, combinedWith, errorWith, shownIn, rowTotal, RowHeld, heldError, shownError, Summed, covered, RowTrial}
+use Rattle.trial.proofs.Candidates.{tried-edited}
+use Rattle.trial.proofs.Positions.{stop-within, limit-true, outside-span}
+
+pub below-owned : (l : Line) (n c p : ℕ) → Owns (placeIn l) n (quarter p) c → pixelBelow l n p ≡ ownedPixel l c (quarter p)
+unfolding pixelBelow
+below-owned l n c p o =
+    ap (λ (e : ℕ). ownedPixel l e (quarter p)) (owner-is (placeIn l) (quarter p) n c (place-zero (l .table) (l .depths) p) o)
+
+-- ---- the two sums
+
+pub summed-none : (o : Around) (w : ℕ) (g : ℕ → Pixel) (a : ℕ) → Summed o w g a a 0 0
+summed-none o w g a = record { olds = omega arith; news = omega arith; old-most = omega arith; new-most = omega arith }
+
+module _ {o : Around} {w : ℕ} {g : ℕ → Pixel} {a p old new : ℕ} (t : Summed o w g a p old new) where
+  -- one position more
+  pub summed-next : {x y : ℕ} → x ≡ heldError o w p → x ≤ 65025 → y ≡ shownError o w g p → y ≤ 65025 → Summed o w g a (p + 1) (old + x) (new + y)
+  summed-next ex hx ey hy =
+      record {
+        olds = omega (arith, sum-next (heldError o w) p, t .olds);
+        news = omega (arith, sum-next (shownError o w g) p, t .news);
+        old-most = omega (arith, t .old-most);
+        new-most = omega (arith, t .new-most);
+      }
+
+  -- a stretch before it
+  pub summed-join : {z old′ new′ : ℕ} → Summed o w g z a old′ new′ → Summed o w g z p (old + old′) (new + new′)
+  summed-join s =
+      record {
+        olds = omega (arith, t .olds, s .olds);
+        news = omega (arith, t .news, s .news);
+        old-most = omega (arith, t .old-most, s .old-most);
+        new-most = omega (arith, t .new-most, s .new-most);
+      }
+
+  -- pixels that agree there
+  pub summed-change : (h : ℕ → Pixel) → a ≤ p → ((i : ℕ) → a ≤ i → i < p → g i ≡ h i) → Summed o w h a p old new
+  unfolding shownError
+  summed-change h le e =
+      record {
+        olds = t .olds;
+        news = omega (
+          arith,
+          t .news,
+          sum-part (shownError o w g) (shownError o w h) a p le (λ i b c. ap (λ (q : Pixel). errorWith o q (entryOf (o .right) w i)) (e i b c)),
+        );
+        old-most = t .old-most;
+        new-most = t .new-most;
+      }
+
+-- ---- the row's total
+
+-- a sum over entries, position by position as a view reads the row
+sum-seen : (r : Bool) (f : ℕ → ℕ) (w : ℕ) → sumTo (λ p. f (entryOf r w p)) w ≡ sumTo f w
+unfolding entryOf
+sum-seen true f w = sum-turn f w
+sum-seen false f w = refl
+
+total-positions : (o : Around) (l : Line) → rowTotal o l ≡ sumTo (shownError o (width l) (pixelAt l)) (width l)
+unfolding rowTotal shownError
+total-positions o l =
+    let r = o .right in
+    let w = width l in
+    sym (sum-seen r (λ i. errorWith o (shownIn r l i) i) w)
+    ∙ sum-same (λ p. errorWith o (shownIn r l (entryOf r w p)) (entryOf r w p)) (λ p. errorWith o (pixelAt l p) (entryOf r w p)) w
+    (λ p h. ap (λ (q : ℕ). errorWith o (pixelAt l q) (entryOf r w p)) (entry-entry r w p h))
+
+module _ (o : Around) (v : Own) (x : List ℕ) (first : ℕ) (fits : first + length x ≤ length (v .depths)) (some : 0 < length x) (most : length (v .depths) ≤ 4096) (same : length (v .limits) ≡ length (v .depths)) where
+  row-change : (old new : ℕ) → Summed o (length (v .depths)) (pixelBelow (tried (o .right) v x first) (first + length x)) (min (spanStart (placeIn (standing (o .right) v)) (placeIn (tried (o .right) v x first)) first (length x)) (spanStop (v .table) (seen (o .right) (v .depths)) (seen (o .right) (v .limits)) (first + length x))) (spanStop (v .table) (seen (o .right) (v .depths)) (seen (o .right) (v .limits)) (first + length x)) old new → RowHeld o v (first + length x) → rowTotal o (tried (o .right) v x first) + old ≡ rowTotal o (standing (o .right) v) + new
+  unfolding shownError heldError
+  row-change old new summed truth =
+      let r = o .right in
+      let t = v .table in
+      let s = seen r (v .texture) in
+      let d = seen r (v .depths) in
+      let e = splice d first (seen r x) in
+      let n : ℕ = length x in
+      let w : ℕ = length (v .depths) in
+      let m : ℕ = first + n in
+      let before = standing r v in
+      let after = tried r v x first in
+      let ld : length d ≡ w = length-seen r (v .depths) in
+      let edit = tried-edited r (v .depths) x first fits some in
+      let le : length e ≡ w = edit .same ∙ ld in
+      let stop : ℕ = spanStop t d (seen r (v .limits)) m in
+      let start : ℕ = min (spanStart (place t d) (place t e) first n) stop in
+      let within : stop ≤ w = omega (arith, stop-within t d (seen r (v .limits)) m) in
+      let es : stop ≡ firstAt (limit (place t d) (length d) m) =
+      ap (λ (z : ℕ). firstAt z) (limit-true t d (seen r (v .limits)) m s (length-seen r (v .limits) ∙ same ∙ sym ld) (rw ld most) (omega arith) (rw ld fits) (λ h. truth .limit (rw ld at h))) in
+      let el : limit (place t e) (length d) m ≡ limit (place t d) (length d) m = moved-limit (edited-moved t d e first (m - 1) edit) m (omega arith) in
+      let out : (p : ℕ) → p < w → (p < spanStart (place t d) (place t e) first n) ⊎ (stop ≤ p) → pixelAt after p ≡ pixelAt before p = λ p h k.
+      span-pixel t s d e first (m - 1) p edit (rw ld h) (outside-span (place t d) (place t e) (length d) first n p some (rw es at k)) in
+      let ins : (p : ℕ) → p < stop → pixelBelow after m p ≡ pixelAt after p = λ p h.
+      below-pixel after m p (omega arith) (rw le fits) (rw (edit .same, el) (omega arith)) in
+      rw (total-positions o after, total-positions o before, le, ld)
+      (sum-change (shownError o w (pixelAt before)) (shownError o w (pixelAt after)) (heldError o w) (shownError o w (pixelBelow after m)) start stop w old new (omega arith) within
+      (λ i h. ap (λ (q : Pixel). errorWith o q (entryOf r w i)) (out i (omega arith) (inl (omega arith))))
+      (λ i h l. ap (λ (q : Pixel). errorWith o q (entryOf r w i)) (out i l (inr h)))
+      (λ i h l.
+      let k : i < w = omega arith in
+      ap (λ (q : ℕ). squareError q (getD (o .reference) (entryOf r w i) 0))
+      (truth .combined (entryOf r w i) (entry-within r w i k)
+      ∙ ap (λ (z : ℕ). combinedWith o (pixelAt before (entryOf r z (entryOf r w i))) (entryOf r w i)) ld
+      ∙ ap (λ (z : ℕ). combinedWith o (pixelAt before z) (entryOf r w i)) (entry-entry r w i k)))
+      (λ i h l. ap (λ (q : Pixel). errorWith o q (entryOf r w i)) (ins i l))
+      (summed .olds) (summed .news))
+
+  -- the sums from start to stop are the row's answer
+  pub row-trial : (start stop old new : ℕ) → start ≡ spanStart (placeIn (standing (o .right) v)) (placeIn (tried (o .right) v x first)) first (length x) → stop ≡ spanStop (v .table) (seen (o .right) (v .depths)) (seen (o .right) (v .limits)) (first + length x) → Summed o (length (v .depths)) (pixelBelow (tried (o .right) v x first) (first + length x)) (min start stop) stop old new → RowTrial o v x first old new
+  unfolding covered
+  row-trial start stop old new es et summed =
+      record {
+        old-most = omega (arith, summed .old-most);
+        new-most = omega (arith, summed .new-most);
+        change = row-change old new (rw (es, et) at summed);
+      }

@@ -1,0 +1,131 @@
+-- `trial::trial_beside` meets its contract: the parts that are lent are the rows.
+use Prim.Native.Nat.{_+_, _-_, _*_}
+use mathlib.Core.Path.{_≡_, sym, _∙_}
+use native.Mathlib.Omega.{arith}
+use denote.Ref.{now}
+use borrow.Author.Needs.{needs}
+use Rattle.model.specs.Lists.{rowOf}
+use Rattle.model.specs.Marks.{markBytes}
+use Rattle.planes.proofs.Splices.{part-length}
+use Rattle.trial.proofs.trial_beside.Statement.{statement}
+use Rattle.trial.proofs.trial_beside.Tie as tie
+
+add-bytes : tie.Need-add-bytes
+add-bytes c = search needs
+
+mul-p : tie.Need-mul-p
+mul-p c = search needs
+
+add-q : tie.Need-add-q
+add-q c = search needs
+
+mul-m : tie.Need-mul-m
+mul-m c = search needs
+
+add-n : tie.Need-add-n
+add-n c = search needs
+
+sub-trial-row : tie.Need-sub-trial-row
+sub-trial-row c = search needs
+
+part-trial-row-start : tie.Need-part-trial-row-start
+part-trial-row-start c = search needs
+
+part-trial-row-end : tie.Need-part-trial-row-end
+part-trial-row-end c = search needs
+
+sub-trial-row-2 : tie.Need-sub-trial-row-2
+sub-trial-row-2 c = search needs
+
+part-trial-row-start-2 : tie.Need-part-trial-row-start-2
+part-trial-row-start-2 c = search needs
+
+part-trial-row-end-2 : tie.Need-part-trial-row-end-2
+part-trial-row-end-2 c = search needs
+
+sub-trial-row-3 : tie.Need-sub-trial-row-3
+sub-trial-row-3 c = search needs
+
+part-trial-row-start-3 : tie.Need-part-trial-row-start-3
+part-trial-row-start-3 c = search needs
+
+part-trial-row-end-3 : tie.Need-part-trial-row-end-3
+part-trial-row-end-3 c = search needs
+
+sub-trial-row-4 : tie.Need-sub-trial-row-4
+sub-trial-row-4 c = search needs
+
+part-trial-row-start-4 : tie.Need-part-trial-row-start-4
+part-trial-row-start-4 c = search needs
+
+part-trial-row-end-4 : tie.Need-part-trial-row-end-4
+part-trial-row-end-4 c = search needs
+
+sub-trial-row-5 : tie.Need-sub-trial-row-5
+sub-trial-row-5 c = search needs
+
+part-trial-row-start-5 : tie.Need-part-trial-row-start-5
+part-trial-row-start-5 c = search needs
+
+part-trial-row-end-5 : tie.Need-part-trial-row-end-5
+part-trial-row-end-5 c = search needs
+
+trial-row-requires : tie.Need-trial-row-requires
+trial-row-requires c κs =
+    let s = c .before .before .before .before .before .before .before .before .before .before .before .before .before in
+    let a = s .args in
+    let p = s .pre in
+    let inside = p .1 .0 in
+    let wide = p .1 .1 .0 in
+    let size = p .1 .1 .1 in
+    let r = part-length (now (a .reference)) (a .y * a .w) (a .w) (inside .reference) in
+    let m = part-length (now (a .marks)) (a .y * markBytes (a .w)) (markBytes (a .w)) (inside .marks) in (
+      p .0,
+      (
+        (wide .0 ∙ sym r, (wide .1 .0 ∙ sym r, wide .1 .1 ∙ sym r)),
+        (
+          record {
+            samples-wide = part-length (now (a .samples)) (a .y * a .w) (a .w) (inside .samples) ∙ sym r;
+            fronts-wide = part-length (now (a .fronts)) (a .y * a .w) (a .w) (inside .fronts) ∙ sym r;
+            marks-wide = rw (r, m) (omega arith);
+            combined-wide = part-length (now (a .combined)) (a .y * a .w) (a .w) (inside .combined) ∙ sym r;
+          },
+          (size .0, (rw (wide .0) (size .1 .0), rw r (size .1 .1))),
+        ),
+      ),
+    )
+
+returns : tie.Need-returns
+unfolding rowOf
+returns c =
+    let a = c .before .before .before .before .before .before .before .before .before .before .before .before .before .before .args in
+    let e : a .y * a .w + a .w - a .y * a .w ≡ a .w = omega arith in
+    let g : a .y * markBytes (a .w) + markBytes (a .w) - a .y * markBytes (a .w) ≡ markBytes (a .w) = omega arith in
+    rw (e, g) at (c .trial-row .ensures)
+
+pub trial-beside-spec : {M : Type 1} → statement M
+trial-beside-spec =
+    tie.close
+    (tie.spec
+    add-bytes
+    mul-p
+    add-q
+    mul-m
+    add-n
+    sub-trial-row
+    part-trial-row-start
+    part-trial-row-end
+    sub-trial-row-2
+    part-trial-row-start-2
+    part-trial-row-end-2
+    sub-trial-row-3
+    part-trial-row-start-3
+    part-trial-row-end-3
+    sub-trial-row-4
+    part-trial-row-start-4
+    part-trial-row-end-4
+    sub-trial-row-5
+    part-trial-row-start-5
+    part-trial-row-end-5
+    trial-row-requires
+    returns)

@@ -1,0 +1,225 @@
+-- What a candidate would change (document 01, "The span of an edit" and GET): one row, then a block of rows.
+--
+-- The held planes may be anything. The sums below are exact for any of them, and end where the span ends by what is held;
+-- that they tell the change of the total is promised where the planes hold the truth on the block's rows.
+use Prim.Native.Nat.{ℕ, _+_, _-_, _*_, _<_, _≤_, min}
+use mathlib.Core.Path.{_≡_}
+use mathlib.Core.Bool.{Bool, cond}
+use mathlib.Core.List.{List}
+use lib.ListN.{length, getD}
+use lib.Dec.{leb, ltb}
+use lib.IntN.{ℤ, pos}
+use Rattle.model.specs.declared.Pixel.{Pixel}
+use Rattle.model.specs.declared.Block.{Block}
+use Rattle.model.specs.Lists.{rowOf, sumTo}
+use Rattle.model.specs.Row.{Line, line, width, placeIn, pixelAt, limitAt}
+use Rattle.model.specs.Views.{seen, entryOf}
+use Rattle.model.specs.Marks.{markBytes}
+use Rattle.model.specs.Combined.{squareError}
+use Rattle.model.specs.Span.{spanLow, firstColumn}
+use Rattle.planes.specs.Parts.{splice}
+use Rattle.signed.specs.Limits.{raisedOf}
+use Rattle.marks.specs.Puts.{heldPixel}
+use Rattle.sums.specs.Sides.{paired}
+use Rattle.pixel.specs.declared.Pair.{Pair}
+use Rattle.pixel.specs.Pairs.{nextPlace}
+use Rattle.row.specs.Drawing.{firstAt}
+
+-- ---- the span's positions
+
+-- the first position of the span of an edit of the n columns from `first` on, from places f to places g
+unfoldable pub spanStart : (ℕ → ℕ) → (ℕ → ℕ) → ℕ → ℕ → ℕ
+spanStart f g first n = firstAt (spanLow f g first (first + n - 1))
+
+-- What is taken for the limit of column n, whose place, or the row's end, is `next`: the held limits e may say anything, and a limit past
+-- `next` is not believed.
+unfoldable pub limitUnder : List ℤ → ℕ → ℕ → ℕ
+limitUnder e n next = cond (ltb n (length e)) (min next (raisedOf (getD e n (pos 0)))) next
+
+-- the position after the last of the span of an edit of columns below n, by what is held
+abbrev pub spanStop : List ℕ → List ℕ → List ℤ → ℕ → ℕ
+spanStop t d e n = firstAt (limitUnder e n (nextPlace t d (n - 1)))
+
+-- columns c and c + 1 of a row, from their depths and places
+unfoldable pub pairWith : List ℕ → ℕ → ℕ → ℕ → ℕ → ℕ → Pair
+pairWith texture c d0 d1 here next =
+    record {
+      s0 = getD texture c 0;
+      s1 = getD texture (c + 1) 0;
+      d0 = d0;
+      d1 = d1;
+      here = here;
+      next = next;
+      last = leb (length texture) (c + 1);
+    }
+
+-- ---- one row
+
+-- What stands beside a row of w: the other view's held row, and the combined row.
+pub record Beside (w : ℕ) (samples fronts marks combined : List ℕ) : Type 0 where
+  pub samples-wide : length samples ≡ w
+  pub fronts-wide : length fronts ≡ w
+  pub marks-wide : w ≤ 8 * length marks
+  pub combined-wide : length combined ≡ w
+
+-- What is tried: a view's table, texture, depths and held limits, of one row or of all.
+pub record Own : Type 0 where
+  pub table : List ℕ
+  pub texture : List ℕ
+  pub depths : List ℕ
+  pub limits : List ℤ
+
+-- What it is set against: the other view's held samples, front depths and marks, the held combined picture, the reference, and how
+-- the views are combined.
+pub record Around : Type 0 where
+  pub right : Bool
+  pub share : ℕ
+  pub tolerance : ℕ
+  pub samples : List ℕ
+  pub fronts : List ℕ
+  pub marks : List ℕ
+  pub combined : List ℕ
+  pub reference : List ℕ
+
+abbrev pub own : List ℕ → List ℕ → List ℕ → List ℤ → Own
+own table texture depths limits = record { table = table; texture = texture; depths = depths; limits = limits }
+
+abbrev pub around : Bool → ℕ → ℕ → List ℕ → List ℕ → List ℕ → List ℕ → List ℕ → Around
+around right share tolerance samples fronts marks combined reference =
+    record {
+      right = right;
+      share = share;
+      tolerance = tolerance;
+      samples = samples;
+      fronts = fronts;
+      marks = marks;
+      combined = combined;
+      reference = reference;
+    }
+
+-- the row as the view reads it: as it stands, and with the candidate x in the columns from `first` on
+abbrev pub standing : Bool → Own → Line
+standing right v = line (v .table) (seen right (v .texture)) (seen right (v .depths))
+
+abbrev pub tried : Bool → Own → List ℕ → ℕ → Line
+tried right v x first = line (v .table) (seen right (v .texture)) (splice (seen right (v .depths)) first (seen right x))
+
+-- the combined sample at entry i, where the view shows q there
+abbrev pub combinedWith : Around → Pixel → ℕ → ℕ
+combinedWith o q i = paired (o .right) (o .share) (o .tolerance) q (heldPixel (o .samples) (o .fronts) (o .marks) i)
+
+-- and its squared error
+abbrev pub errorWith : Around → Pixel → ℕ → ℕ
+errorWith o q i = squareError (combinedWith o q i) (getD (o .reference) i 0)
+
+-- the view's pixel at entry i
+abbrev pub shownIn : Bool → Line → ℕ → Pixel
+shownIn right l i = pixelAt l (entryOf right (width l) i)
+
+-- the total of a row drawn fresh
+unfoldable pub rowTotal : Around → Line → ℕ
+rowTotal o l = sumTo (λ i. errorWith o (shownIn (o .right) l i) i) (width l)
+
+-- The row holds the truth, for an edit of columns below n: the limit of column n, and the combined row.
+pub record RowHeld (o : Around) (v : Own) (n : ℕ) : Type 0 where
+  pub limit : n < length (v .depths) → getD (seen (o .right) (v .limits)) n (pos 0) ≡ limitAt (standing (o .right) v) n
+  pub combined : (i : ℕ) → i < length (v .depths) → getD (o .combined) i 0 ≡ combinedWith o (shownIn (o .right) (standing (o .right) v) i) i
+
+-- the squared error at position p of a row of w, as the view reads it: of the held combined row, and where the view shows the pixels g
+unfoldable pub heldError : Around → ℕ → ℕ → ℕ
+heldError o w p = squareError (getD (o .combined) (entryOf (o .right) w p) 0) (getD (o .reference) (entryOf (o .right) w p) 0)
+
+unfoldable pub shownError : Around → ℕ → (ℕ → Pixel) → ℕ → ℕ
+shownError o w g p = errorWith o (g p) (entryOf (o .right) w p)
+
+-- the sums of these errors over the positions from `start` up to `stop`
+pub record Summed (o : Around) (w : ℕ) (g : ℕ → Pixel) (start stop old new : ℕ) : Type 0 where
+  pub olds : old + sumTo (heldError o w) start ≡ sumTo (heldError o w) stop
+  pub news : new + sumTo (shownError o w g) start ≡ sumTo (shownError o w g) stop
+  pub old-most : old + 65025 * start ≤ 65025 * stop
+  pub new-most : new + 65025 * start ≤ 65025 * stop
+
+-- how many positions the trial of a row covers
+unfoldable pub covered : Bool → Own → List ℕ → ℕ → ℕ
+covered right v x first =
+    spanStop (v .table) (seen right (v .depths)) (seen right (v .limits)) (first + length x)
+    - spanStart (placeIn (standing right v)) (placeIn (tried right v x first)) first (length x)
+
+-- What the trial of a row answers: the squared errors of the covered positions, as held and with the candidate.
+pub record RowTrial (o : Around) (v : Own) (x : List ℕ) (first old new : ℕ) : Type 0 where
+  pub old-most : old ≤ 65025 * covered (o .right) v x first
+  pub new-most : new ≤ 65025 * covered (o .right) v x first
+  pub change : RowHeld o v (first + length x) → rowTotal o (tried (o .right) v x first) + old ≡ rowTotal o (standing (o .right) v) + new
+
+-- ---- a block
+
+-- row y of the planes
+abbrev pub ownRow : ℕ → Own → ℕ → Own
+ownRow w v y = own (v .table) (rowOf (v .texture) w y) (rowOf (v .depths) w y) (rowOf (v .limits) w y)
+
+abbrev pub aroundRow : ℕ → Around → ℕ → Around
+aroundRow w o y =
+    around (o .right) (o .share) (o .tolerance) (rowOf (o .samples) w y) (rowOf (o .fronts) w y) (rowOf (o .marks) (markBytes w) y)
+    (rowOf (o .combined) w y) (rowOf (o .reference) w y)
+
+abbrev pub blockOf : ℕ → ℕ → ℕ → ℕ → Block
+blockOf column row width height = record { column = column; row = row; width = width; height = height }
+
+-- Row y lies within the planes, which are w wide.
+pub record OwnRowIn (w y : ℕ) (v : Own) : Type 0 where
+  pub texture : y * w + w ≤ length (v .texture)
+  pub depths : y * w + w ≤ length (v .depths)
+  pub limits : y * w + w ≤ length (v .limits)
+
+pub record AroundRowIn (w y : ℕ) (o : Around) : Type 0 where
+  pub samples : y * w + w ≤ length (o .samples)
+  pub fronts : y * w + w ≤ length (o .fronts)
+  pub marks : y * markBytes w + markBytes w ≤ length (o .marks)
+  pub combined : y * w + w ≤ length (o .combined)
+  pub reference : y * w + w ≤ length (o .reference)
+
+-- Planes that are w wide and h high.
+pub record Sized (w h : ℕ) (o : Around) (v : Own) : Type 0 where
+  pub texture : length (v .texture) ≡ w * h
+  pub depths : length (v .depths) ≡ w * h
+  pub limits : length (v .limits) ≡ w * h
+  pub samples : length (o .samples) ≡ w * h
+  pub fronts : length (o .fronts) ≡ w * h
+  pub marks : length (o .marks) ≡ markBytes w * h
+  pub combined : length (o .combined) ≡ w * h
+  pub reference : length (o .reference) ≡ w * h
+
+-- A block that lies within them, and a candidate for it.
+pub record Fits (w h : ℕ) (b : Block) (c : List ℕ) : Type 0 where
+  pub wide : w ≤ 4096
+  pub high : h ≤ 4096
+  pub some : 1 ≤ b .width
+  pub right : b .column + b .width ≤ w
+  pub bottom : b .row + b .height ≤ h
+  pub entries : length c ≡ b .width * b .height
+
+-- A block of a view's planes that are w wide, and the candidate for it.
+module _ (w : ℕ) (o : Around) (v : Own) (b : Block) (c : List ℕ) where
+  -- its first column, as the view reads a row
+  abbrev pub firstOf : ℕ
+  firstOf = firstColumn (o .right) w (b .column) (b .width)
+
+  -- of its row i: the total as the depths are, the total with the candidate, and how many positions the trial covers
+  abbrev pub totalBefore : ℕ → ℕ
+  totalBefore i = rowTotal (aroundRow w o (b .row + i)) (standing (o .right) (ownRow w v (b .row + i)))
+
+  abbrev pub totalAfter : ℕ → ℕ
+  totalAfter i = rowTotal (aroundRow w o (b .row + i)) (tried (o .right) (ownRow w v (b .row + i)) (rowOf c (b .width) i) firstOf)
+
+  abbrev pub coveredIn : ℕ → ℕ
+  coveredIn i = covered (o .right) (ownRow w v (b .row + i)) (rowOf c (b .width) i) firstOf
+
+  -- The block's rows hold the truth.
+  abbrev pub BlockHeld : Type 0
+  BlockHeld = (i : ℕ) → i < b .height → RowHeld (aroundRow w o (b .row + i)) (ownRow w v (b .row + i)) (firstOf + b .width)
+
+-- What the trial of the block's first n rows answers.
+pub record BlockTrial (w : ℕ) (o : Around) (v : Own) (b : Block) (c : List ℕ) (n old new : ℕ) : Type 0 where
+  pub old-most : old ≤ 65025 * sumTo (coveredIn w o v b c) n
+  pub new-most : new ≤ 65025 * sumTo (coveredIn w o v b c) n
+  pub change : BlockHeld w o v b c → sumTo (totalAfter w o v b c) n + old ≡ sumTo (totalBefore w o v b c) n + new
