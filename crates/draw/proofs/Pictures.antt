@@ -43,17 +43,17 @@ side-in w h y s f m p k =
 pub parts-reach : (w y : ℕ) (c s f m : List ℕ) → SideIn w y s f m → y * w + w ≤ length c → Reaches (0 + length (part c w y)) (part s w y) (part f w y) (part m (markBytes w) y)
 parts-reach w y c s f m h k =
     let n : length (part c w y) ≡ w = part-length c (y * w) w k in
-    record
-      { samples = omega (arith, part-length s (y * w) w (h .samples))
-      ; fronts = omega (arith, part-length f (y * w) w (h .fronts))
-      ; marks = omega (arith, part-length m (y * markBytes w) (markBytes w) (h .marks))
-      }
+    record {
+      samples = omega (arith, part-length s (y * w) w (h .samples));
+      fronts = omega (arith, part-length f (y * w) w (h .fronts));
+      marks = omega (arith, part-length m (y * markBytes w) (markBytes w) (h .marks));
+    }
 
 -- row y of a picture that got its combined part back
 pub row-combined :
-  (share tolerance w y : ℕ) (s₀ f₀ m₀ s₁ f₁ m₁ c xs : List ℕ) → y * w + w ≤ length c → length xs ≡ length (part c w y) →
-  xs ≡ combinedPart false share tolerance (heldPixel (part s₀ w y) (part f₀ w y) (part m₀ (markBytes w) y)) (heldPixel (part s₁ w y) (part f₁ w y) (part m₁ (markBytes w) y)) 0 (length (part c w y)) →
-  RowCombined share tolerance w y (heldRows w s₀ f₀ m₀) (heldRows w s₁ f₁ m₁) c (take (y * w) c ++ (xs ++ drop (y * w + w - y * w) (drop (y * w) c)))
+    (share tolerance w y : ℕ) (s₀ f₀ m₀ s₁ f₁ m₁ c xs : List ℕ) → y * w + w ≤ length c → length xs ≡ length (part c w y) →
+    xs ≡ combinedPart false share tolerance (heldPixel (part s₀ w y) (part f₀ w y) (part m₀ (markBytes w) y)) (heldPixel (part s₁ w y) (part f₁ w y) (part m₁ (markBytes w) y)) 0 (length (part c w y)) →
+    RowCombined share tolerance w y (heldRows w s₀ f₀ m₀) (heldRows w s₁ f₁ m₁) c (take (y * w) c ++ (xs ++ drop (y * w + w - y * w) (drop (y * w) c)))
 unfolding combinedRow
 row-combined share tolerance w y s₀ f₀ m₀ s₁ f₁ m₁ c xs fits long e =
     let n : length (part c w y) ≡ w = part-length c (y * w) w fits in
@@ -62,9 +62,9 @@ row-combined share tolerance w y s₀ f₀ m₀ s₁ f₁ m₁ c xs fits long e 
 
 -- the sum of the squared errors of row y, from its parts
 pub row-error :
-  (w y : ℕ) (c reference : List ℕ) (r : ℕ) → y * w + w ≤ length c →
-  (r ≡ sumTo (λ i. squareError (getD (part c w y) i 0) (getD (part reference w y) i 0)) (length (part c w y))) × (r ≤ 65025 * length (part c w y)) →
-  (r ≡ rowError w (rowOf c w y) reference y) × (r ≤ 65025 * w)
+    (w y : ℕ) (c reference : List ℕ) (r : ℕ) → y * w + w ≤ length c →
+    (r ≡ sumTo (λ i. squareError (getD (part c w y) i 0) (getD (part reference w y) i 0)) (length (part c w y))) × (r ≤ 65025 * length (part c w y)) →
+    (r ≡ rowError w (rowOf c w y) reference y) × (r ≤ 65025 * w)
 unfolding rowError
 row-error w y c reference r fits h =
     let n : length (part c w y) ≡ w = part-length c (y * w) w fits in
@@ -78,20 +78,20 @@ module _ {share tolerance w : ℕ} {left right : ℕ → ℕ → Pixel} {referen
   picture-none c = record { rows-are = λ k h. absurd (not-suc-le-zero h); total = refl; most = omega arith }
 
   pub picture-next :
-    {y : ℕ} {c c′ : List ℕ} {total r x : ℕ} → PictureCombined share tolerance w y left right reference c total →
-    RowCombined share tolerance w y left right c c′ → (r ≡ rowError w (rowOf c′ w y) reference y) × (r ≤ 65025 * w) → x ≡ r →
-    PictureCombined share tolerance w (y + 1) left right reference c′ (total + x)
+      {y : ℕ} {c c′ : List ℕ} {total r x : ℕ} → PictureCombined share tolerance w y left right reference c total →
+      RowCombined share tolerance w y left right c c′ → (r ≡ rowError w (rowOf c′ w y) reference y) × (r ≤ 65025 * w) → x ≡ r →
+      PictureCombined share tolerance w (y + 1) left right reference c′ (total + x)
   picture-next {y} {c} {c′} {total} {r} {x} p q f e =
       let error : r ≡ rowError w (combinedRow share tolerance w left right y) reference y = f .0 ∙ ap (λ (l : List ℕ). rowError w l reference y) (q .row-is) in
       let n = sum-next (λ y. rowError w (combinedRow share tolerance w left right y) reference y) y in
       let m : 65025 * w * (y + 1) ≡ 65025 * w * y + 65025 * w = rw (add-one y) (mul-suc (65025 * w) y) in
-      record
-        { rows-are = λ k h.
+      record {
+        rows-are = λ k h.
             ⊎-elim (λ l. q .others k (λ i. omega arith) ∙ p .rows-are k l)
-            (λ l. let i : k ≡ y = omega arith in subst (λ (j : ℕ). rowOf c′ w j ≡ combinedRow share tolerance w left right j) (sym i) (q .row-is)) (lt-or-le k y)
-        ; total = omega (arith, n, p .total)
-        ; most = omega (arith, p .most, f .1, m)
-        }
+            (λ l. let i : k ≡ y = omega arith in subst (λ (j : ℕ). rowOf c′ w j ≡ combinedRow share tolerance w left right j) (sym i) (q .row-is)) (lt-or-le k y);
+        total = omega (arith, n, p .total);
+        most = omega (arith, p .most, f .1, m);
+      }
 
 -- a total and one row more stay far below 64 bits
 pub picture-most : {w y total x r : ℕ} → total ≤ 65025 * w * y → x ≡ r → r ≤ 65025 * w → w ≤ 4096 → y ≤ 4096 → total + x < 2 ^ 64

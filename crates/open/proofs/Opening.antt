@@ -22,25 +22,25 @@ use Rattle.open.specs.Filled.{Filled}
 -- planes of these sizes keep them
 pub planes-left : (s : Settings) (p : Pictures) (d : Depths) (g : Held) → Common s p d g → PlanesOf (s .w) (s .h) (p .left) (d .left) (g .left)
 planes-left s p d g c =
-    record
-      { texture-of = c .pictures .left
-      ; depths-of = c .depths .left
-      ; samples-of = c .held .left .samples
-      ; fronts-of = c .held .left .fronts
-      ; limits-of = c .held .left .limits
-      ; marks-of = c .held .left .marks
-      }
+    record {
+      texture-of = c .pictures .left;
+      depths-of = c .depths .left;
+      samples-of = c .held .left .samples;
+      fronts-of = c .held .left .fronts;
+      limits-of = c .held .left .limits;
+      marks-of = c .held .left .marks;
+    }
 
 pub planes-right : (s : Settings) (p : Pictures) (d : Depths) (g : Held) → Common s p d g → PlanesOf (s .w) (s .h) (p .right) (d .right) (g .right)
 planes-right s p d g c =
-    record
-      { texture-of = c .pictures .right
-      ; depths-of = c .depths .right
-      ; samples-of = c .held .right .samples
-      ; fronts-of = c .held .right .fronts
-      ; limits-of = c .held .right .limits
-      ; marks-of = c .held .right .marks
-      }
+    record {
+      texture-of = c .pictures .right;
+      depths-of = c .depths .right;
+      samples-of = c .held .right .samples;
+      fronts-of = c .held .right .fronts;
+      limits-of = c .held .right .limits;
+      marks-of = c .held .right .marks;
+    }
 
 module _ (s : Settings) (p : Pictures) (d : Depths) (g : Held) (total : ℕ) (c : Common s p d g) (f : Filled (s .left) (s .right) (s .share) (s .tolerance) (s .w) (s .h) p d g total) where
   left-is : g .left ≡ freshView s p d false
@@ -61,26 +61,26 @@ module _ (s : Settings) (p : Pictures) (d : Depths) (g : Held) (total : ℕ) (c 
 
 -- planes that kept their lengths have passed the same tests
 pub common-kept :
-  (s : Settings) (p : Pictures) (d : Depths) (g₀ g : Held) → Common s p d g₀ →
-  length (g .left .samples) ≡ length (g₀ .left .samples) → length (g .left .fronts) ≡ length (g₀ .left .fronts) →
-  length (g .left .limits) ≡ length (g₀ .left .limits) → length (g .left .marks) ≡ length (g₀ .left .marks) →
-  length (g .right .samples) ≡ length (g₀ .right .samples) → length (g .right .fronts) ≡ length (g₀ .right .fronts) →
-  length (g .right .limits) ≡ length (g₀ .right .limits) → length (g .right .marks) ≡ length (g₀ .right .marks) →
-  length (g .combined) ≡ length (g₀ .combined) → Common s p d g
+    (s : Settings) (p : Pictures) (d : Depths) (g₀ g : Held) → Common s p d g₀ →
+    length (g .left .samples) ≡ length (g₀ .left .samples) → length (g .left .fronts) ≡ length (g₀ .left .fronts) →
+    length (g .left .limits) ≡ length (g₀ .left .limits) → length (g .left .marks) ≡ length (g₀ .left .marks) →
+    length (g .right .samples) ≡ length (g₀ .right .samples) → length (g .right .fronts) ≡ length (g₀ .right .fronts) →
+    length (g .right .limits) ≡ length (g₀ .right .limits) → length (g .right .marks) ≡ length (g₀ .right .marks) →
+    length (g .combined) ≡ length (g₀ .combined) → Common s p d g
 common-kept s p d g₀ g c ls lf le lm rs rf re rm k =
-    record
-      { size = c .size
-      ; pictures = c .pictures
-      ; depths = c .depths
-      ; held =
-          record
-            { left = record { samples = ls ∙ c .held .left .samples; fronts = lf ∙ c .held .left .fronts; limits = le ∙ c .held .left .limits; marks = lm ∙ c .held .left .marks }
-            ; right = record { samples = rs ∙ c .held .right .samples; fronts = rf ∙ c .held .right .fronts; limits = re ∙ c .held .right .limits; marks = rm ∙ c .held .right .marks }
-            ; combined = k ∙ c .held .combined
-            }
-      ; tables = c .tables
-      ; share = c .share
-      }
+    record {
+      size = c .size;
+      pictures = c .pictures;
+      depths = c .depths;
+      held =
+          record {
+            left = record { samples = ls ∙ c .held .left .samples; fronts = lf ∙ c .held .left .fronts; limits = le ∙ c .held .left .limits; marks = lm ∙ c .held .left .marks };
+            right = record { samples = rs ∙ c .held .right .samples; fronts = rf ∙ c .held .right .fronts; limits = re ∙ c .held .right .limits; marks = rm ∙ c .held .right .marks };
+            combined = k ∙ c .held .combined;
+          };
+      tables = c .tables;
+      share = c .share;
+    }
 
 -- ---- the two ways out
 
@@ -89,14 +89,14 @@ refused s p d g r e ne =
     record { number = e; refused-held = λ _. refl; refused-settings = λ _. refl; held = λ z. absurd (ne z); settings = λ z. absurd (ne z) }
 
 pub opened :
-  (s : Settings) (p : Pictures) (d : Depths) (g₀ g : Held) (total : ℕ) → openNumber s p d g₀ ≡ 0 → Common s p d g →
-  Filled (s .left) (s .right) (s .share) (s .tolerance) (s .w) (s .h) p d g total →
-  OpenPost s p d g₀ g (record { refusal = None; settings = withTotal s total })
+    (s : Settings) (p : Pictures) (d : Depths) (g₀ g : Held) (total : ℕ) → openNumber s p d g₀ ≡ 0 → Common s p d g →
+    Filled (s .left) (s .right) (s .share) (s .tolerance) (s .w) (s .h) p d g total →
+    OpenPost s p d g₀ g (record { refusal = None; settings = withTotal s total })
 opened s p d g₀ g total e c f =
-    record
-      { number = sym e
-      ; refused-held = λ ne. absurd (ne refl)
-      ; refused-settings = λ ne. absurd (ne refl)
-      ; held = λ z. filled-fresh s p d g total c f
-      ; settings = λ z. ap (withTotal s) (filled-total s p d g total c f)
-      }
+    record {
+      number = sym e;
+      refused-held = λ ne. absurd (ne refl);
+      refused-settings = λ ne. absurd (ne refl);
+      held = λ z. filled-fresh s p d g total c f;
+      settings = λ z. ap (withTotal s) (filled-total s p d g total c f);
+    }

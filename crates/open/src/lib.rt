@@ -44,7 +44,7 @@ fn fill(
     ensures { λ r. ⌜ Filled (now (leftTable .entry)) (now (rightTable .entry)) share tolerance w h
         (pictures (now (left .entry)) (now (right .entry)) (now (reference .entry))) (depths (now (leftDepths .entry)) (now (rightDepths .entry)))
         (held (view (now (leftSamples .exit)) (now (leftFronts .exit)) (now (leftLimits .exit)) (now (leftMarks .exit)))
-          (view (now (rightSamples .exit)) (now (rightFronts .exit)) (now (rightLimits .exit)) (now (rightMarks .exit))) (now (combined .exit))) r ⌝ }
+        (view (now (rightSamples .exit)) (now (rightFronts .exit)) (now (rightLimits .exit)) (now (rightMarks .exit))) (now (combined .exit))) r ⌝ }
 {
     draw::draw_view(
         false,
@@ -108,9 +108,9 @@ pub fn open(
 ) -> Opened
     ensures { λ r. ⌜ OpenPost settings (pictures (now (left .entry)) (now (right .entry)) (now (reference .entry))) (depths (now (leftDepths .entry)) (now (rightDepths .entry)))
         (held (view (now (leftSamples .entry)) (now (leftFronts .entry)) (now (leftLimits .entry)) (now (leftMarks .entry)))
-          (view (now (rightSamples .entry)) (now (rightFronts .entry)) (now (rightLimits .entry)) (now (rightMarks .entry))) (now (combined .entry)))
+        (view (now (rightSamples .entry)) (now (rightFronts .entry)) (now (rightLimits .entry)) (now (rightMarks .entry))) (now (combined .entry)))
         (held (view (now (leftSamples .exit)) (now (leftFronts .exit)) (now (leftLimits .exit)) (now (leftMarks .exit)))
-          (view (now (rightSamples .exit)) (now (rightFronts .exit)) (now (rightLimits .exit)) (now (rightMarks .exit))) (now (combined .exit))) r ⌝ }
+        (view (now (rightSamples .exit)) (now (rightFronts .exit)) (now (rightLimits .exit)) (now (rightMarks .exit))) (now (combined .exit))) r ⌝ }
 {
     let leftTable = settings.left;
     let rightTable = settings.right;

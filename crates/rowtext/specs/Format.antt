@@ -39,13 +39,13 @@ space = 32
 abbrev pub newline : ℕ
 newline = 10
 
--- Decimal, without leading zeros: a number below 10 is its digit, and any other the digits of n div 10 and then the last one.
--- `digits` is as many digits as there can be, less one.
+-- Decimal, without leading zeros: a number below 10 is its digit, and any other the digits of n div 10 and then n mod 10.
+-- There is room for `more` digits after the first.
 unfoldable pub decimalIn : ℕ → ℕ → List ℕ
 decimalIn zero n = digit n ∷ []
-decimalIn (suc digits) n = cond (ltb n 10) (digit n ∷ []) (decimalIn digits (n / 10) ++ (digit (n % 10) ∷ []))
+decimalIn (suc more) n = cond (ltb n 10) (digit n ∷ []) (decimalIn more (n / 10) ++ (digit (n % 10) ∷ []))
 
--- No number has more digits than its value and one.
+-- A number n has at most n digits after its first.
 unfoldable pub decimal : ℕ → List ℕ
 decimal n = decimalIn n n
 

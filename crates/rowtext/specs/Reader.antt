@@ -1,5 +1,5 @@
--- Reading a text from the left: what each step answers, as a function of the bytes that are left. The laws of proofs/ show that this reads
--- the text of every valid row (Printed) and nothing else (Read).
+-- Reading a text from the left: what each step answers, as a function of the bytes that are left. The laws of proofs/Rows show that this
+-- reads the text of every valid row (row-printed) and no other text (row-read).
 use Prim.Native.Nat.{ℕ, zero, suc, _+_, _-_, _*_, _≤_}
 use mathlib.Core.Path.{_≡_}
 use mathlib.Core.Bool.{cond}

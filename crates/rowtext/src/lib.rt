@@ -128,6 +128,7 @@ fn mark_of(n: usize) -> u8
     if n == 0 { 10 } else { 32 }
 }
 
+// A number of a line as the byte that holds it.
 fn narrow(value: u16) -> u8
     requires { ⌜ value ≤ 255 ⌝ }
     ensures { λ r. ⌜ r ≡ value ⌝ }
@@ -135,6 +136,7 @@ fn narrow(value: u16) -> u8
     value as u8
 }
 
+// Room for the numbers of a line.
 fn zeros() -> [u8; 64]
     ensures { λ r. ⌜ r ≡ replicate 64 0 ⌝ }
 {

@@ -40,15 +40,16 @@ early-total s t p d h v b n = refl
 
 -- what setting a block of the view requires, from the tests before 8
 pub requires :
-  (s : Settings) (p : Pictures) (d : Depths) (h : Held) (v : ℕ) (b : Block) (c : List ℕ) (r : Bool) → earlyNumber s p d h v b (length c) ≡ 0 →
-  ((tableOk (tableOf s r) ≡ true) × ((s .share ≤ 64) × ((s .w ≤ 4096) × (s .h ≤ 4096))))
-  × (Sized (s .w) (s .h) (textureOf p r) (depthsOf d r) (viewOf h r)
-  × (OtherSized (s .w) (s .h) (viewOf h (not r) .samples) (viewOf h (not r) .fronts) (viewOf h (not r) .marks) (h .combined)
-  × BlockIn (s .w) (s .h) b c))
+    (s : Settings) (p : Pictures) (d : Depths) (h : Held) (v : ℕ) (b : Block) (c : List ℕ) (r : Bool) → earlyNumber s p d h v b (length c) ≡ 0 →
+    ((tableOk (tableOf s r) ≡ true) × ((s .share ≤ 64) × ((s .w ≤ 4096) × (s .h ≤ 4096))))
+    × (Sized (s .w) (s .h) (textureOf p r) (depthsOf d r) (viewOf h r)
+    × (OtherSized (s .w) (s .h) (viewOf h (not r) .samples) (viewOf h (not r) .fronts) (viewOf h (not r) .marks) (h .combined)
+    × BlockIn (s .w) (s .h) b c))
 requires s p d h v b c r e =
-    let f = common-facts s p d h (early-common s p d h v b (length c) e) in
-    ((table r (f .tables), (f .share, (f .size .w .most, f .size .h .most))),
-    (own-sized f r, (other-sized f (not r), block-in (own-facts s v b (length c) (early-own s p d h v b (length c) e)))))
+    let f = common-facts s p d h (early-common s p d h v b (length c) e) in (
+      (table r (f .tables), (f .share, (f .size .w .most, f .size .h .most))),
+      (own-sized f r, (other-sized f (not r), block-in (own-facts s v b (length c) (early-own s p d h v b (length c) e)))),
+    )
   where
     table : (r : Bool) → Tables s → tableOk (tableOf s r) ≡ true
     table true t = table-yes (s .right) (t .right)
@@ -59,16 +60,16 @@ depths-sized s p d h v b n e = common-facts s p d h (early-common s p d h v b n 
 
 -- a block that is set in the view's planes
 pub wrote-by :
-  (s : Settings) (p : Pictures) (d₀ : Depths) (h₀ : Held) (v : ℕ) (b : Block) (c : List ℕ) (r : Bool) → isRight v ≡ r →
-  DepthsSized s d₀ → (d′ : List ℕ) (v′ : View) (c′ : List ℕ) →
-  BlockSet r (tableOf s r) (s .share) (s .tolerance) (s .w) (s .h) b (textureOf p r) c (viewOf h₀ (not r) .samples) (viewOf h₀ (not r) .fronts) (viewOf h₀ (not r) .marks) (depthsOf d₀ r) d′ (viewOf h₀ r) v′ (h₀ .combined) c′ →
-  Wrote s p d₀ (withDepths r d₀ d′) h₀ (withView r h₀ v′ c′) v b c
+    (s : Settings) (p : Pictures) (d₀ : Depths) (h₀ : Held) (v : ℕ) (b : Block) (c : List ℕ) (r : Bool) → isRight v ≡ r →
+    DepthsSized s d₀ → (d′ : List ℕ) (v′ : View) (c′ : List ℕ) →
+    BlockSet r (tableOf s r) (s .share) (s .tolerance) (s .w) (s .h) b (textureOf p r) c (viewOf h₀ (not r) .samples) (viewOf h₀ (not r) .fronts) (viewOf h₀ (not r) .marks) (depthsOf d₀ r) d′ (viewOf h₀ r) v′ (h₀ .combined) c′ →
+    Wrote s p d₀ (withDepths r d₀ d′) h₀ (withView r h₀ v′ c′) v b c
 wrote-by s p d₀ h₀ v b c r side sized d′ v′ c′ set =
-    record
-      { depths = set-depths s p d₀ h₀ v b c r side d′ v′ c′ set
-      ; untouched = set-untouched s p d₀ h₀ v b c r side d′ v′ c′ set
-      ; held = λ sound. set-fresh s p d₀ h₀ v b c r side d′ v′ c′ set sized sound
-      }
+    record {
+      depths = set-depths s p d₀ h₀ v b c r side d′ v′ c′ set;
+      untouched = set-untouched s p d₀ h₀ v b c r side d′ v′ c′ set;
+      held = λ sound. set-fresh s p d₀ h₀ v b c r side d′ v′ c′ set sized sound;
+    }
 
 -- ---- the two ways out
 
@@ -76,37 +77,37 @@ module _ (s : Settings) (p : Pictures) (d₀ : Depths) (h₀ : Held) (v : ℕ) (
   -- x is the change as it is answered
   pub refused : (x : ℤ) → x ≡ r .change → (numberOf (r .refusal) ≡ 0 → ⊥) → SetPost s p d₀ d₀ h₀ h₀ v b c (record { refusal = r .refusal; change = x; settings = s })
   refused x e ne =
-      record
-        { found = made .answer .found
-        ; number = made .answer .number
-        ; refused-depths = λ _. refl
-        ; refused-held = λ _. refl
-        ; refused-settings = λ _. refl
-        ; refused-change = λ i. e ∙ made .answer .refused i
-        ; change = λ i. e ∙ made .answer .change i
-        ; settings = λ z. absurd (ne z)
-        ; depths = λ z. absurd (ne z)
-        ; untouched = λ z. absurd (ne z)
-        ; decided = made .answer .decided
-        ; in-range = made .answer .in-range
-        ; held = λ z. absurd (ne z)
-        }
+      record {
+        found = made .answer .found;
+        number = made .answer .number;
+        refused-depths = λ _. refl;
+        refused-held = λ _. refl;
+        refused-settings = λ _. refl;
+        refused-change = λ i. e ∙ made .answer .refused i;
+        change = λ i. e ∙ made .answer .change i;
+        settings = λ z. absurd (ne z);
+        depths = λ z. absurd (ne z);
+        untouched = λ z. absurd (ne z);
+        decided = made .answer .decided;
+        in-range = made .answer .in-range;
+        held = λ z. absurd (ne z);
+      }
 
   -- the settings that the writing was told differ in the total alone
   pub edited : (x : ℤ) → x ≡ r .change → (t : ℕ) (d : Depths) (h : Held) → numberOf (r .refusal) ≡ 0 → Wrote (withTotal s t) p d₀ d h₀ h v b c → SetPost s p d₀ d h₀ h v b c (record { refusal = r .refusal; change = x; settings = withTotal s (r .total) })
   edited x e t d h z w =
-      record
-        { found = made .answer .found
-        ; number = made .answer .number
-        ; refused-depths = λ ne. absurd (ne z)
-        ; refused-held = λ ne. absurd (ne z)
-        ; refused-settings = λ ne. absurd (ne z)
-        ; refused-change = λ i. e ∙ made .answer .refused i
-        ; change = λ i. e ∙ made .answer .change i
-        ; settings = λ q. ap (withTotal s) (made .moved z ∙ ap (λ (x : ℤ). natAbs (pos (s .total) +ℤ x)) (made .answer .change z))
-        ; depths = λ q. w .depths ∙ written-total s t v b c d₀
-        ; untouched = λ q. record { left = w .untouched .left; right = w .untouched .right; rows = w .untouched .rows }
-        ; decided = made .answer .decided
-        ; in-range = made .answer .in-range
-        ; held = λ q sound. w .held (sound .held ∙ sym (fresh-total s t p d₀)) ∙ fresh-total s t p (written (withTotal s t) v b c d₀) ∙ ap (fresh s p) (written-total s t v b c d₀)
-        }
+      record {
+        found = made .answer .found;
+        number = made .answer .number;
+        refused-depths = λ ne. absurd (ne z);
+        refused-held = λ ne. absurd (ne z);
+        refused-settings = λ ne. absurd (ne z);
+        refused-change = λ i. e ∙ made .answer .refused i;
+        change = λ i. e ∙ made .answer .change i;
+        settings = λ q. ap (withTotal s) (made .moved z ∙ ap (λ (x : ℤ). natAbs (pos (s .total) +ℤ x)) (made .answer .change z));
+        depths = λ q. w .depths ∙ written-total s t v b c d₀;
+        untouched = λ q. record { left = w .untouched .left; right = w .untouched .right; rows = w .untouched .rows };
+        decided = made .answer .decided;
+        in-range = made .answer .in-range;
+        held = λ q sound. w .held (sound .held ∙ sym (fresh-total s t p d₀)) ∙ fresh-total s t p (written (withTotal s t) v b c d₀) ∙ ap (fresh s p) (written-total s t v b c d₀);
+      }

@@ -71,11 +71,16 @@ draw-row-requires c κs =
     let a = start .args in
     let h = start .pre in
     let p = h .1 .0 in
-    let l = part-length (a .depths .now) (a .y * a .w) (a .w) (p .depths-in) in
-    (parts-ready (a .table .now) (a .w) (a .y) (a .texture .now) (a .depths .now) _ (h .0 .0) (h .0 .1 .0) (h .0 .1 .1) p,
-    (part-length (a .samples .now) (a .y * a .w) (a .w) (p .samples-in) ∙ sym l,
-    (part-length (a .fronts .now) (a .y * a .w) (a .w) (p .fronts-in) ∙ sym l,
-    (h .1 .1 ∙ sym l, part-length (a .limits .now) (a .y * a .w) (a .w) (p .limits-in) ∙ sym l))))
+    let l = part-length (a .depths .now) (a .y * a .w) (a .w) (p .depths-in) in (
+      parts-ready (a .table .now) (a .w) (a .y) (a .texture .now) (a .depths .now) _ (h .0 .0) (h .0 .1 .0) (h .0 .1 .1) p,
+      (
+        part-length (a .samples .now) (a .y * a .w) (a .w) (p .samples-in) ∙ sym l,
+        (
+          part-length (a .fronts .now) (a .y * a .w) (a .w) (p .fronts-in) ∙ sym l,
+          (h .1 .1 ∙ sym l, part-length (a .limits .now) (a .y * a .w) (a .w) (p .limits-in) ∙ sym l),
+        ),
+      ),
+    )
 
 add-bytes : tie.Need-add-bytes
 add-bytes c =
@@ -107,9 +112,10 @@ pack-requires c κs =
     let a = start .args in
     let h = start .pre in
     let d = c .before .before .before .before .before .before .before .before .before .draw-row in
-    let l = d .kept .1 .1 .1 .1 .1 .1 .0 ∙ h .1 .1 in
-    ((rw l (part-length (a .marks .now) _ _ (h .1 .0 .marks-in)), rw l (h .0 .1 .1)),
-    subst (λ (ms : List ℕ). Flags ms) (sym (d .ensures .shows .marks-are)) (flags-view (a .right) _))
+    let l = d .kept .1 .1 .1 .1 .1 .1 .0 ∙ h .1 .1 in (
+      (rw l (part-length (a .marks .now) _ _ (h .1 .0 .marks-in)), rw l (h .0 .1 .1)),
+      subst (λ (ms : List ℕ). Flags ms) (sym (d .ensures .shows .marks-are)) (flags-view (a .right) _),
+    )
 
 same-length : tie.Need-same-length
 same-length c = search needs

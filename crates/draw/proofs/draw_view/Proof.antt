@@ -46,15 +46,21 @@ loop-again c =
     let start = c .before .before .before .before .before .before .before .before .before .before .before .before .before .before .before .before .before .before .before .before .before in
     let l = c .before .before .before .before .before .before .before .before .before .before .before .before .before .before .before .loop in
     let d = c .before .before .before .before .before .before .before .before .draw-plane-row in
-    let k = l .inv .1 .1 .0 in
-    (omega (arith, c .before .before .before .before .before .before .before .before .before .before .before .before .before .before .loop-test .taken), (length-front (l .flags) (d .last .1 .1 .1 .1 .1 .1 .1 .1 .1 .1 .0) (start .args .w) (d .kept .1 .1 .1 .1 .1 .1 .1 .1 .1 .1 .0) ∙ l .inv .1 .0,
-    (record
-      { samples = d .kept .1 .1 .1 .1 .1 .1 .0 ∙ k .samples
-      ; fronts = d .kept .1 .1 .1 .1 .1 .1 .1 .0 ∙ k .fronts
-      ; limits = d .kept .1 .1 .1 .1 .1 .1 .1 .1 .0 ∙ k .limits
-      ; marks = d .kept .1 .1 .1 .1 .1 .1 .1 .1 .1 .0 ∙ k .marks
-      },
-    view-next (l .inv .1 .1 .1) (d .ensures))))
+    let k = l .inv .1 .1 .0 in (
+      omega (arith, c .before .before .before .before .before .before .before .before .before .before .before .before .before .before .loop-test .taken),
+      (
+        length-front (l .flags) (d .last .1 .1 .1 .1 .1 .1 .1 .1 .1 .1 .0) (start .args .w) (d .kept .1 .1 .1 .1 .1 .1 .1 .1 .1 .1 .0) ∙ l .inv .1 .0,
+        (
+          record {
+            samples = d .kept .1 .1 .1 .1 .1 .1 .0 ∙ k .samples;
+            fronts = d .kept .1 .1 .1 .1 .1 .1 .1 .0 ∙ k .fronts;
+            limits = d .kept .1 .1 .1 .1 .1 .1 .1 .1 .0 ∙ k .limits;
+            marks = d .kept .1 .1 .1 .1 .1 .1 .1 .1 .1 .0 ∙ k .marks;
+          },
+          view-next (l .inv .1 .1 .1) (d .ensures),
+        ),
+      ),
+    )
 
 same-length : tie.Need-same-length Inv-loop μ-loop
 same-length c = c .before .loop .inv .1 .1 .0 .samples

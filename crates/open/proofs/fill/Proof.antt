@@ -19,11 +19,16 @@ combine-picture-requires : tie.Need-combine-picture-requires
 combine-picture-requires c κs =
     let h = c .before .before .before .before .before .before .before .before .before .before .before .before .before .before .before .before .before .before .before .before .before .before .before .before .before .before .before .before .before .before .before .before .before .before .before .before .before .before .before .before .before .before .before .before .before .pre in
     let l = c .before .before .before .before .before .before .before .before .before .before .before .before .before .before .before .before .before .before .before .before .before .before .before .before .before .before .before .before .draw-view .kept in
-    let r = c .before .before .before .before .before .before .before .before .before .before .before .before .before .before .before .before .draw-view2 .kept in
-    ((c .before .before .before .before .before .before .before .before .squares .ensures, (h .0 .1 .1, h .1 .0 .1)),
-    ((record { samples = l .1 .1 .1 .1 .1 .1 .0 ∙ h .1 .1 .0 .samples-of; fronts = l .1 .1 .1 .1 .1 .1 .1 .0 ∙ h .1 .1 .0 .fronts-of; marks = l .1 .1 .1 .1 .1 .1 .1 .1 .1 .0 ∙ h .1 .1 .0 .marks-of },
-    record { samples = r .1 .1 .1 .1 .1 .1 .0 ∙ h .1 .1 .1 .0 .samples-of; fronts = r .1 .1 .1 .1 .1 .1 .1 .0 ∙ h .1 .1 .1 .0 .fronts-of; marks = r .1 .1 .1 .1 .1 .1 .1 .1 .1 .0 ∙ h .1 .1 .1 .0 .marks-of }),
-    h .1 .1 .1 .1))
+    let r = c .before .before .before .before .before .before .before .before .before .before .before .before .before .before .before .before .draw-view2 .kept in (
+      (c .before .before .before .before .before .before .before .before .squares .ensures, (h .0 .1 .1, h .1 .0 .1)),
+      (
+        (
+          record { samples = l .1 .1 .1 .1 .1 .1 .0 ∙ h .1 .1 .0 .samples-of; fronts = l .1 .1 .1 .1 .1 .1 .1 .0 ∙ h .1 .1 .0 .fronts-of; marks = l .1 .1 .1 .1 .1 .1 .1 .1 .1 .0 ∙ h .1 .1 .0 .marks-of },
+          record { samples = r .1 .1 .1 .1 .1 .1 .0 ∙ h .1 .1 .1 .0 .samples-of; fronts = r .1 .1 .1 .1 .1 .1 .1 .0 ∙ h .1 .1 .1 .0 .fronts-of; marks = r .1 .1 .1 .1 .1 .1 .1 .1 .1 .0 ∙ h .1 .1 .1 .0 .marks-of },
+        ),
+        h .1 .1 .1 .1,
+      ),
+    )
 
 same-length : tie.Need-same-length
 same-length c = c .before .before .before .before .before .before .before .before .before .before .before .before .before .before .before .before .before .before .before .before .before .before .before .before .before .before .before .before .before .before .before .draw-view .kept .1 .1 .1 .1 .1 .1 .0

@@ -36,9 +36,10 @@ fill-requires c κs =
     let d = depths (a .leftDepths .now) (a .rightDepths .now) in
     let g = held (view (a .leftSamples .now) (a .leftFronts .now) (a .leftLimits .now) (a .leftMarks .now)) (view (a .rightSamples .now) (a .rightFronts .now) (a .rightLimits .now) (a .rightMarks .now)) (a .combined .now) in
     let n : openNumber (a .settings) p d g ≡ 0 = sym (c .before .before .before .before .before .before .before .before .before .before .before .before .before .before .before .common .ensures ∙ common-number (a .settings) p d g 0) ∙ (sym (c .before .before .before .before .before .before .before .before .before .before .before .before .before .before .number .ensures) ∙ c .before .before .before .before .before .before .before .before .before .before .before .before .before .if1 .left) in
-    let f = common-facts (a .settings) p d g n in
-    ((table-yes _ (f .tables .left), (table-yes _ (f .tables .right), f .share)),
-    ((f .size .w .some, (f .size .w .most, f .size .h .most)), (planes-left (a .settings) p d g f, (planes-right (a .settings) p d g f, (f .pictures .reference, f .held .combined)))))
+    let f = common-facts (a .settings) p d g n in (
+      (table-yes _ (f .tables .left), (table-yes _ (f .tables .right), f .share)),
+      ((f .size .w .some, (f .size .w .most, f .size .h .most)), (planes-left (a .settings) p d g f, (planes-right (a .settings) p d g f, (f .pictures .reference, f .held .combined)))),
+    )
 
 same-length : tie.Need-same-length
 same-length c = search needs

@@ -1,3 +1,4 @@
+-- `digit_at` meets its contract.
 use borrow.Author.Needs.{needs}
 use Rattle.rowtext.proofs.digit_at.Statement.{statement}
 use Rattle.rowtext.proofs.digit_at.Tie as tie

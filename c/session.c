@@ -1,0 +1,158 @@
+/*
+ * The small session of document 01 (cases k, l and m), reports, refused calls and a drawn row (case g), from C.
+ * Its output is compared with session.out. It compiles as C99 and as C++.
+ */
+#include <stdio.h>
+#include <string.h>
+
+#include "luphwezane.h"
+
+#define W 4
+
+static const uint8_t texture[W] = {10, 20, 30, 40};
+static uint8_t depth[2][W], sample[2][W], front[2][W], marks[2][1], combined[W];
+static int16_t limit[2][W];
+
+static luph_in in(const uint8_t *data, size_t len) {
+    luph_in x;
+    x.data = data;
+    x.len = len;
+    return x;
+}
+
+static luph_out out(uint8_t *data, size_t len) {
+    luph_out x;
+    x.data = data;
+    x.len = len;
+    return x;
+}
+
+static luph_planes planes(void) {
+    luph_planes q;
+    for (int v = 0; v < 2; v++) {
+        q.depth[v] = out(depth[v], W);
+        q.sample[v] = out(sample[v], W);
+        q.front[v] = out(front[v], W);
+        q.marks[v] = out(marks[v], 1);
+        q.limit[v].data = limit[v];
+        q.limit[v].len = W;
+    }
+    q.combined = out(combined, W);
+    return q;
+}
+
+static void print_row(const char *name, const uint8_t *row) {
+    printf("%s %d %d %d %d\n", name, row[0], row[1], row[2], row[3]);
+}
+
+static void print_check(const luph_settings *s, const luph_pictures *p, const luph_planes *q) {
+    luph_report r = {9, 9, 9};
+    const int number = luph_check(s, p, q, &r);
+    printf("check: %d, kind %d, row %lu, column %lu\n", number, r.kind, (unsigned long)r.row, (unsigned long)r.column);
+}
+
+static void print_holes(const luph_settings *s, uint32_t view) {
+    uint64_t count = 99;
+    const int number = luph_holes(s, view, in(marks[0], 1), in(marks[1], 1), &count);
+    printf("holes of view %lu: %d, %lu\n", (unsigned long)view, number, (unsigned long)count);
+}
+
+/* One depth in one column of the left view: tried, and set. */
+static void print_trial(const luph_settings *s, const luph_pictures *p, const luph_planes *q, uint32_t column, uint8_t d) {
+    const luph_block b = {column, 0, 1, 1};
+    int64_t change = 999;
+    const int number = luph_get(s, p, q, 0, b, in(&d, 1), &change);
+    printf("get column %lu depth %d: %d, change %ld, total %lu\n", (unsigned long)column, d, number, (long)change, (unsigned long)s->total);
+}
+
+static void print_set(luph_settings *s, const luph_pictures *p, const luph_planes *q, uint32_t column, uint8_t d) {
+    const luph_block b = {column, 0, 1, 1};
+    int64_t change = 999;
+    const int number = luph_set(s, p, q, 0, b, in(&d, 1), &change);
+    printf("set column %lu depth %d: %d, change %ld, total %lu\n", (unsigned long)column, d, number, (long)change, (unsigned long)s->total);
+}
+
+static void session(luph_settings *s, const luph_pictures *p, const luph_planes *q) {
+    s->total = 77; /* ignored */
+    const int number = luph_open(s, p, q);
+    printf("open: %d, total %lu\n", number, (unsigned long)s->total);
+    print_trial(s, p, q, 2, 4); /* case k: 125 */
+    print_trial(s, p, q, 2, 5); /* case l: 100 */
+    print_set(s, p, q, 2, 4);
+    print_row("combined", combined);
+    print_check(s, p, q);
+    print_trial(s, p, q, 2, 5); /* case m: -25 */
+    print_set(s, p, q, 2, 0);   /* and -125, back at total 0 */
+    print_check(s, p, q);
+}
+
+/* A hole, and what CHECK says of a damaged plane and of a wrong total. */
+static void reports(luph_settings *s, const luph_pictures *p, const luph_planes *q) {
+    print_set(s, p, q, 2, 5);
+    print_holes(s, 0);
+    print_holes(s, 1);
+    combined[1] ^= 1;
+    print_check(s, p, q);
+    combined[1] ^= 1;
+    s->total += 1;
+    print_check(s, p, q);
+    s->total -= 1;
+    print_check(s, p, q);
+}
+
+/* Refused calls: the number, and answers left as they were. */
+static void refusals(luph_settings *s, const luph_pictures *p, const luph_planes *q) {
+    luph_planes none = *q;
+    luph_settings other = *s;
+    luph_block whole = {0, 0, W, 1};
+    int64_t change = 999;
+    int number;
+    print_trial(s, p, q, 4, 4); /* 5: past the last column */
+    print_set(s, p, q, 4, 4);
+    number = luph_get(s, p, q, 2, whole, in(texture, W), &change);
+    printf("get of view 2: %d, change %ld\n", number, (long)change);
+    number = luph_set(s, p, q, 1, whole, in(NULL, 0), &change);
+    printf("set of no candidate: %d, change %ld\n", number, (long)change);
+    none.combined = out(NULL, 0);
+    number = luph_get(s, p, &none, 0, whole, in(texture, W), &change);
+    printf("get without a combined picture: %d, change %ld\n", number, (long)change);
+    other.w = 4097;
+    other.total = 77;
+    number = luph_open(&other, p, q);
+    printf("open of 4,097 columns: %d, total %lu\n", number, (unsigned long)other.total);
+    other.w = W;
+    other.share = 65;
+    print_check(&other, p, q);
+    other.share = 64;
+    other.right[255] = 1024;
+    print_check(&other, p, q);
+    print_holes(s, 7);
+    print_check(s, p, q);
+}
+
+/* Case g: a torn pair, whose far side fills the gap. */
+static void row(const luph_settings *s) {
+    static const uint8_t depths[W] = {0, 0, 5, 0};
+    uint8_t samples[W], fronts[W], packed[1];
+    const int number = luph_render(s, 0, in(texture, W), in(depths, W), out(samples, W), out(packed, 1), out(fronts, W));
+    printf("render: %d, marks %d\n", number, packed[0]);
+    print_row("samples", samples);
+    print_row("fronts", fronts);
+}
+
+int main(void) {
+    luph_settings s;
+    luph_pictures p;
+    luph_planes q = planes();
+    memset(&s, 0, sizeof s);
+    s.w = W;
+    s.h = 1;
+    s.tolerance = 255;
+    for (int d = 0; d < 256; d++) s.left[d] = s.right[d] = (uint16_t)d;
+    p.texture[0] = p.texture[1] = p.reference = in(texture, W);
+    session(&s, &p, &q);
+    reports(&s, &p, &q);
+    refusals(&s, &p, &q);
+    row(&s);
+    return 0;
+}

@@ -1,0 +1,3 @@
+-- The theorem of a run is about the real functions.
+pub mod Bound
+pub mod Visits

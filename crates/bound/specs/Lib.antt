@@ -1,0 +1,2 @@
+-- A visit to a session.
+pub mod Answers

@@ -1,0 +1,145 @@
+// A caller that goes by the theorem of a run alone: a session opened, a candidate tried, another one set, and the first tried again.
+use model::Block;
+use model::Refusal;
+use model::Settings;
+use model::Trial;
+ghost use Rattle.model.specs.Planes as planes;
+ghost use Rattle.bound.specs.Answers.{Visited};
+
+// What the four calls answered; where the session was not opened, nothing was tried.
+pub struct Visit {
+    pub opened: Refusal,
+    pub tried: Trial,
+    pub chosen: Trial,
+    pub again: Trial,
+}
+
+// OPEN, then GET of `first`, SET of `second` and GET of `first` again, all for one block of one view.
+pub fn open_and_try(
+    settings: Settings,
+    left: &[u8],
+    right: &[u8],
+    reference: &[u8],
+    leftDepths: &mut [u8],
+    rightDepths: &mut [u8],
+    leftSamples: &mut [u8],
+    leftFronts: &mut [u8],
+    leftLimits: &mut [i16],
+    leftMarks: &mut [u8],
+    rightSamples: &mut [u8],
+    rightFronts: &mut [u8],
+    rightLimits: &mut [i16],
+    rightMarks: &mut [u8],
+    combined: &mut [u8],
+    view: u32,
+    block: Block,
+    first: &[u8],
+    second: &[u8],
+) -> Visit
+    ensures { λ r. ⌜ Visited settings (planes.pictures (now (left .entry)) (now (right .entry)) (now (reference .entry))) (planes.depths (now (leftDepths .entry)) (now (rightDepths .entry))) view block (now (first .entry)) (now (second .entry)) r ⌝ }
+{
+    let opened = open::open(
+        settings,
+        left,
+        right,
+        reference,
+        leftDepths,
+        rightDepths,
+        leftSamples,
+        leftFronts,
+        leftLimits,
+        leftMarks,
+        rightSamples,
+        rightFronts,
+        rightLimits,
+        rightMarks,
+        combined,
+    );
+    let refusal = opened.refusal;
+    let none = Trial {
+        refusal: Refusal::None,
+        change: 0,
+    };
+    if model::number(refusal) != 0 {
+        return Visit {
+            opened: refusal,
+            tried: none,
+            chosen: none,
+            again: none,
+        };
+    }
+    let start = opened.settings;
+    let tried = get::get(
+        start,
+        left,
+        right,
+        reference,
+        leftDepths,
+        rightDepths,
+        leftSamples,
+        leftFronts,
+        leftLimits,
+        leftMarks,
+        rightSamples,
+        rightFronts,
+        rightLimits,
+        rightMarks,
+        combined,
+        view,
+        block,
+        first,
+    );
+    let edited = set::set(
+        start,
+        left,
+        right,
+        reference,
+        leftDepths,
+        rightDepths,
+        leftSamples,
+        leftFronts,
+        leftLimits,
+        leftMarks,
+        rightSamples,
+        rightFronts,
+        rightLimits,
+        rightMarks,
+        combined,
+        view,
+        block,
+        second,
+    );
+    let next = edited.settings;
+    let again = get::get(
+        next,
+        left,
+        right,
+        reference,
+        leftDepths,
+        rightDepths,
+        leftSamples,
+        leftFronts,
+        leftLimits,
+        leftMarks,
+        rightSamples,
+        rightFronts,
+        rightLimits,
+        rightMarks,
+        combined,
+        view,
+        block,
+        first,
+    );
+    let answer = edited.refusal;
+    let change = edited.change;
+    let chosen = Trial {
+        refusal: answer,
+        change: change,
+    };
+    Visit {
+        opened: refusal,
+        tried: tried,
+        chosen: chosen,
+        again: again,
+    }
+}

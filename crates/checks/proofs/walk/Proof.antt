@@ -1,0 +1,216 @@
+-- `checks::walk` meets its contract. Between rows no difference has been found and the rows' errors are summed; within a row the same holds
+-- up to the column.
+use Prim.Native.Nat.{_-_, _≤_}
+use mathlib.Core.Path.{_≡_, refl, sym, _∙_}
+use native.Mathlib.Omega.{arith}
+use borrow.Author.Tests.{not-true, not-false}
+use Rattle.model.specs.declared.Settings.{Settings}
+use Rattle.model.specs.Planes.{Pictures, Depths, Held, pictures, depths, view, held}
+use Rattle.model.proofs.Refusals.{Common, common-facts}
+use Rattle.checks.specs.declared.Place.the-variants.{None}
+use Rattle.checks.specs.Walks.{settingsOf}
+use Rattle.checks.proofs.Positions.{RowIn, row-within, EntryIn, entry-within}
+use Rattle.checks.proofs.Drawing.{Seen, seen-at, error-is}
+use Rattle.checks.proofs.Passed.{Passed, passed-none, passed-next, passed-row, walked-all, walked-at}
+use Rattle.checks.proofs.walk.Statement.{statement}
+use Rattle.checks.proofs.walk.Tie as tie
+
+abbrev Inv-loop : tie.InvT-loop
+Inv-loop w h leftTable rightTable share tolerance squares left right reference leftDepths rightDepths leftSamples leftFronts leftLimits leftMarks rightSamples rightFronts rightLimits rightMarks combined samples0 fronts0 limits0 marks0 samples1 fronts1 limits1 marks1 place₀ sum₀ y x₀ place sum x =
+    (x ≤ w) × ((place ≡ None) × Passed (settingsOf w h leftTable rightTable share tolerance) (pictures left right reference) (depths leftDepths rightDepths)
+    (held (view leftSamples leftFronts leftLimits leftMarks) (view rightSamples rightFronts rightLimits rightMarks) combined) y x sum)
+
+abbrev μ-loop : tie.MeasureT-loop
+μ-loop w h leftTable rightTable share tolerance squares left right reference leftDepths rightDepths leftSamples leftFronts leftLimits leftMarks rightSamples rightFronts rightLimits rightMarks combined samples0 fronts0 limits0 marks0 samples1 fronts1 limits1 marks1 place₀ sum₀ y x₀ place sum x =
+    w - x
+
+abbrev Inv-rows : tie.InvT-rows
+Inv-rows w h leftTable rightTable share tolerance squares left right reference leftDepths rightDepths leftSamples leftFronts leftLimits leftMarks rightSamples rightFronts rightLimits rightMarks combined samples0₀ fronts0₀ limits0₀ marks0₀ samples1₀ fronts1₀ limits1₀ marks1₀ place₀ sum₀ y₀ samples0 fronts0 limits0 marks0 samples1 fronts1 limits1 marks1 place sum y =
+    (y ≤ h) × ((place ≡ None) × Passed (settingsOf w h leftTable rightTable share tolerance) (pictures left right reference) (depths leftDepths rightDepths)
+    (held (view leftSamples leftFronts leftLimits leftMarks) (view rightSamples rightFronts rightLimits rightMarks) combined) y 0 sum)
+
+abbrev μ-rows : tie.MeasureT-rows
+μ-rows w h leftTable rightTable share tolerance squares left right reference leftDepths rightDepths leftSamples leftFronts leftLimits leftMarks rightSamples rightFronts rightLimits rightMarks combined samples0₀ fronts0₀ limits0₀ marks0₀ samples1₀ fronts1₀ limits1₀ marks1₀ place₀ sum₀ y₀ samples0 fronts0 limits0 marks0 samples1 fronts1 limits1 marks1 place sum y =
+    h - y
+
+-- what the call is lent
+abbrev Start : Type 0
+Start = tie.Start Inv-loop μ-loop Inv-rows μ-rows
+
+abbrev settings-of : Start → Settings
+settings-of c = let a = c .args in settingsOf (a .w) (a .h) (a .leftTable .now) (a .rightTable .now) (a .share) (a .tolerance)
+
+abbrev pictures-of : Start → Pictures
+pictures-of c = let a = c .args in pictures (a .left .now) (a .right .now) (a .reference .now)
+
+abbrev depths-of : Start → Depths
+depths-of c = let a = c .args in depths (a .leftDepths .now) (a .rightDepths .now)
+
+abbrev held-of : Start → Held
+held-of c =
+    let a = c .args in
+    held (view (a .leftSamples .now) (a .leftFronts .now) (a .leftLimits .now) (a .leftMarks .now))
+    (view (a .rightSamples .now) (a .rightFronts .now) (a .rightLimits .now) (a .rightMarks .now)) (a .combined .now)
+
+-- no test turns the call down
+common : (c : Start) → Common (settings-of c) (pictures-of c) (depths-of c) (held-of c)
+common c = common-facts (settings-of c) (pictures-of c) (depths-of c) (held-of c) (c .pre .1)
+
+-- row y can be drawn
+row-of : (c : tie.In-rows Inv-loop μ-loop Inv-rows μ-rows) → let s = c .before .before .before .before .before .before .before .before .before .before .before .before .before .before in RowIn (settings-of s) (pictures-of s) (depths-of s) (c .before .rows .y)
+row-of c =
+    let s = c .before .before .before .before .before .before .before .before .before .before .before .before .before .before in
+    row-within (settings-of s) (pictures-of s) (depths-of s) (held-of s) (common s) (c .before .rows .y) (c .rows-test .taken)
+
+-- column x of it can be read
+entry-of : (c : tie.In-loop Inv-loop μ-loop Inv-rows μ-rows) → let s = c .before .before .before .before .before .before .before .before .before .before .before .before .before .before .before .before .before .before .before .before .before .before .before .before .before .before in EntryIn (settings-of s) (pictures-of s) (held-of s) (c .before .before .before .before .before .before .before .before .before .before .before .before .before .rows .y) (c .before .loop .x)
+entry-of c =
+    let s = c .before .before .before .before .before .before .before .before .before .before .before .before .before .before .before .before .before .before .before .before .before .before .before .before .before .before in
+    entry-within (settings-of s) (pictures-of s) (depths-of s) (held-of s) (common s) (c .before .before .before .before .before .before .before .before .before .before .before .before .before .rows .y) (c .before .before .before .before .before .before .before .before .before .before .before .before .rows-test .taken) (c .before .loop .x) (c .loop-test .taken)
+
+-- what the comparison at a position tells
+seen-of : (c : tie.After-same-at Inv-loop μ-loop Inv-rows μ-rows) → let s = c .before .before .before .before .before .before .before .before .before .before .before .before .before .before .before .before .before .before .before .before .before .before .before .before .before .before .before .before .before .before .before .before .before .before .before .before .before .before .before .before .before .before in Seen (settings-of s) (pictures-of s) (depths-of s) (held-of s) (c .before .before .before .before .before .before .before .before .before .before .before .before .before .before .before .before .before .before .before .before .before .before .before .before .before .before .before .before .before .rows .y) (c .before .before .before .before .before .before .before .before .before .before .before .before .before .before .before .before .before .loop .x) (c .before .before .before .before .before .before .before .before .before .shown-at .result) (c .same-at .result)
+seen-of c =
+    let s = c .before .before .before .before .before .before .before .before .before .before .before .before .before .before .before .before .before .before .before .before .before .before .before .before .before .before .before .before .before .before .before .before .before .before .before .before .before .before .before .before .before .before in
+    seen-at (settings-of s) (pictures-of s) (depths-of s) (held-of s) (c .before .before .before .before .before .before .before .before .before .before .before .before .before .before .before .before .before .before .before .before .before .before .before .before .before .before .before .before .before .rows .y) (c .before .before .before .before .before .before .before .before .before .before .before .before .before .before .before .before .before .loop .x) _ _ _ _ (common s .depths)
+    (c .before .before .before .before .before .before .before .before .before .before .before .before .before .before .before .before .before .before .before .before .before .before .before .before .before .before .before .before .rows-test .taken) (c .before .before .before .before .before .before .before .before .before .before .before .before .before .before .before .before .loop-test .taken) (c .before .before .before .before .before .before .before .before .before .before .before .before .before .before .before .before .before .before .before .before .before .before .before .draw-front .ensures) (c .before .before .before .before .before .before .before .before .before .before .before .before .before .before .before .before .before .before .draw-front2 .ensures)
+    (c .before .before .before .before .before .before .before .before .before .shown-at .ensures) (c .same-at .ensures)
+
+rows-holds : tie.Need-rows-holds Inv-loop μ-loop Inv-rows μ-rows
+rows-holds c = let s = c .before .before .before .before .before .before .before .before .before .before .before .before in (omega arith, (refl, passed-none (settings-of s) (pictures-of s) (depths-of s) (held-of s)))
+
+draw-front-requires : tie.Need-draw-front-requires Inv-loop μ-loop Inv-rows μ-rows
+draw-front-requires c κs =
+    let r = row-of (c .before .before .before .before) in
+    ((r .left-table, (r .some, r .most)), (r .left-texture, r .left-depths))
+
+draw-front-requires-2 : tie.Need-draw-front-requires-2 Inv-loop μ-loop Inv-rows μ-rows
+draw-front-requires-2 c κs =
+    let r = row-of (c .before .before .before .before .before .before .before .before .before) in
+    ((r .right-table, (r .some, r .most)), (r .right-texture, r .right-depths))
+
+loop-holds : tie.Need-loop-holds Inv-loop μ-loop Inv-rows μ-rows
+loop-holds c = let i = c .before .before .before .before .before .before .before .before .before .before .before .rows .inv in (omega arith, (i .1 .0, i .1 .1))
+
+shown-at-requires : tie.Need-shown-at-requires Inv-loop μ-loop Inv-rows μ-rows
+shown-at-requires c κs = (common (c .before .before .before .before .before .before .before .before .before .before .before .before .before .before .before .before .before .before .before .before .before .before .before .before .before .before .before .before .before .before .before .before) .share, entry-of (c .before .before .before .before .before .before) .near)
+
+same-at-requires : tie.Need-same-at-requires Inv-loop μ-loop Inv-rows μ-rows
+same-at-requires c κs =
+    let e = entry-of (c .before .before .before .before .before .before .before .before .before .before .before .before .before .before .before) in
+    (e .left, (e .right, (e .combined, (c .before .before .before .before .before .before .before .before .before .before .before .before .before .before .before .loop-test .taken, common (c .before .before .before .before .before .before .before .before .before .before .before .before .before .before .before .before .before .before .before .before .before .before .before .before .before .before .before .before .before .before .before .before .before .before .before .before .before .before .before .before .before) .size .w .most))))
+
+cast-t61 : tie.Need-cast-t61 Inv-loop μ-loop Inv-rows μ-rows
+cast-t61 c = let e = entry-of (c .before .before .before .before .before .before .before .before .before .before .before .before .before .before .before .before .before) in omega (arith, e .low)
+
+cast-t62 : tie.Need-cast-t62 Inv-loop μ-loop Inv-rows μ-rows
+cast-t62 c = let e = entry-of (c .before .before .before .before .before .before .before .before .before .before .before .before .before .before .before .before .before) in omega (arith, e .near)
+
+mul-square-error : tie.Need-mul-square-error Inv-loop μ-loop Inv-rows μ-rows
+mul-square-error c = let e = entry-of (c .before .before .before .before .before .before .before .before .before .before .before .before .before .before .before .before .before) in omega (arith, e .few)
+
+add-square-error : tie.Need-add-square-error Inv-loop μ-loop Inv-rows μ-rows
+add-square-error c = let e = entry-of (c .before .before .before .before .before .before .before .before .before .before .before .before .before .before .before .before .before) in omega (arith, e .few)
+
+shared-slice-read-square-error : tie.Need-shared-slice-read-square-error Inv-loop μ-loop Inv-rows μ-rows
+shared-slice-read-square-error c = entry-of (c .before .before .before .before .before .before .before .before .before .before .before .before .before .before .before .before .before .before) .reference
+
+square-error-requires : tie.Need-square-error-requires Inv-loop μ-loop Inv-rows μ-rows
+square-error-requires c κs = c .before .before .before .before .before .before .before .before .before .before .before .before .before .before .before .before .before .before .before .before .before .before .before .before .before .before .before .before .before .before .before .before .before .before .before .before .before .before .before .before .before .before .before .before .pre .0
+
+cast-sum : tie.Need-cast-sum Inv-loop μ-loop Inv-rows μ-rows
+cast-sum c = omega (arith, c .square-error .ensures .1)
+
+add-sum : tie.Need-add-sum Inv-loop μ-loop Inv-rows μ-rows
+add-sum c =
+    let e = entry-of (c .before .before .before .before .before .before .before .before .before .before .before .before .before .before .before .before .before .before .before) in
+    omega (arith, e .few, c .square-error .ensures .1, c .before .before .before .before .before .before .before .before .before .before .before .before .before .before .before .before .before .before .before .before .loop .inv .1 .1 .most)
+
+add-x : tie.Need-add-x Inv-loop μ-loop Inv-rows μ-rows
+add-x c = let e = entry-of (c .before .before .before .before .before .before .before .before .before .before .before .before .before .before .before .before .before .before .before) in omega (arith, e .near)
+
+loop-less : tie.Need-loop-less Inv-loop μ-loop Inv-rows μ-rows
+loop-less c = omega (arith, c .before .before .before .before .before .before .before .before .before .before .before .before .before .before .before .before .before .before .before .loop-test .taken)
+
+loop-again : tie.Need-loop-again Inv-loop μ-loop Inv-rows μ-rows
+loop-again c =
+    let s = c .before .before .before .before .before .before .before .before .before .before .before .before .before .before .before .before .before .before .before .before .before .before .before .before .before .before .before .before .before .before .before .before .before .before .before .before .before .before .before .before .before .before .before .before .before in
+    let l = c .before .before .before .before .before .before .before .before .before .before .before .before .before .before .before .before .before .before .before .before .loop in
+    let y = c .before .before .before .before .before .before .before .before .before .before .before .before .before .before .before .before .before .before .before .before .before .before .before .before .before .before .before .before .before .before .before .before .rows .y in
+    let at = c .before .before .before in
+    let seen = seen-of at in
+    let lx = c .before .before .before .before .before .before .before .before .before .before .before .before .before .before .before .before .before .before .before .loop-test .taken in (
+      omega (arith, lx),
+      (
+        l .inv .1 .0,
+        passed-next (settings-of s) (pictures-of s) (depths-of s) (held-of s) y (l .x) (l .sum) (c .square-error .result) lx (l .inv .1 .1)
+            (sym (seen .same-is) ∙ not-false _ (c .before .before .if1 .left))
+            (error-is (settings-of s) (pictures-of s) (depths-of s) y (l .x) (at .before .before .before .before .before .before .before .before .before .shown-at .result) (c .square-error .result) (seen .shown-is) (c .square-error .ensures .0))
+            (c .square-error .ensures .1),
+      ),
+    )
+
+add-y : tie.Need-add-y Inv-loop μ-loop Inv-rows μ-rows
+add-y c = omega (arith, c .before .before .before .before .before .before .before .before .before .before .before .before .rows-test .taken, common (c .before .before .before .before .before .before .before .before .before .before .before .before .before .before .before .before .before .before .before .before .before .before .before .before .before .before) .size .h .most)
+
+rows-less : tie.Need-rows-less Inv-loop μ-loop Inv-rows μ-rows
+rows-less c = omega (arith, c .before .before .before .before .before .before .before .before .before .before .before .before .rows-test .taken)
+
+rows-again : tie.Need-rows-again Inv-loop μ-loop Inv-rows μ-rows
+rows-again c =
+    let s = c .before .before .before .before .before .before .before .before .before .before .before .before .before .before .before .before .before .before .before .before .before .before .before .before .before .before in
+    let l = c .before .loop in
+    let full = c .loop-test .left in
+    let e : l .x ≡ s .args .w = omega (arith, l .inv .0, full) in (
+      omega (arith, c .before .before .before .before .before .before .before .before .before .before .before .before .rows-test .taken),
+      (
+        l .inv .1 .0,
+        passed-row (settings-of s) (pictures-of s) (depths-of s) (held-of s) (c .before .before .before .before .before .before .before .before .before .before .before .before .before .rows .y) (l .x) (l .sum) e (l .inv .1 .1),
+      ),
+    )
+
+returns : tie.Need-returns Inv-loop μ-loop Inv-rows μ-rows
+returns c =
+    let s = c .before .before .before .before .before .before .before .before .before .before .before .before .before .before in
+    let r = c .before .rows in
+    let full = c .rows-test .left in
+    let e : r .y ≡ s .args .h = omega (arith, r .inv .0, full) in
+    walked-all (settings-of s) (pictures-of s) (depths-of s) (held-of s) (r .place) (r .sum) (r .y) (r .inv .1 .0) e (r .inv .1 .1)
+
+returns-2 : tie.Need-returns-2 Inv-loop μ-loop Inv-rows μ-rows
+returns-2 c =
+    let s = c .before .before .before .before .before .before .before .before .before .before .before .before .before .before .before .before .before .before .before .before .before .before .before .before .before .before .before .before .before .before .before .before .before .before .before .before .before .before .before .before .before .before .before in
+    let l = c .before .before .before .before .before .before .before .before .before .before .before .before .before .before .before .before .before .before .loop in
+    walked-at (settings-of s) (pictures-of s) (depths-of s) (held-of s) (c .before .before .before .before .before .before .before .before .before .before .before .before .before .before .before .before .before .before .before .before .before .before .before .before .before .before .before .before .before .before .rows .y) (l .x) (l .sum) (c .before .before .before .before .before .before .before .before .before .before .before .before .before .before .before .before .before .before .before .before .before .before .before .before .before .before .before .before .before .rows-test .taken) (c .before .before .before .before .before .before .before .before .before .before .before .before .before .before .before .before .before .loop-test .taken) (l .inv .1 .1)
+    (sym (seen-of (c .before) .same-is) ∙ not-true _ (c .if1 .taken))
+
+pub walk-spec : {M : Type 1} → statement M
+walk-spec =
+    tie.close
+    (tie.spec
+    Inv-loop
+    μ-loop
+    Inv-rows
+    μ-rows
+    rows-holds
+    draw-front-requires
+    draw-front-requires-2
+    loop-holds
+    shown-at-requires
+    same-at-requires
+    cast-t61
+    cast-t62
+    mul-square-error
+    add-square-error
+    shared-slice-read-square-error
+    square-error-requires
+    cast-sum
+    add-sum
+    add-x
+    loop-less
+    loop-again
+    add-y
+    rows-less
+    rows-again
+    returns
+    returns-2)

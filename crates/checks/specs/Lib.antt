@@ -1,0 +1,2 @@
+-- The walk of CHECK over all positions.
+pub mod Walks

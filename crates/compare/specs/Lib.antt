@@ -1,0 +1,2 @@
+-- What is held against rows that are drawn afresh.
+pub mod Agree

@@ -1,0 +1,2 @@
+-- Why the exported entries answer what the entries promise.
+pub mod Told

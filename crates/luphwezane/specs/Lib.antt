@@ -1,0 +1,2 @@
+-- What the exported entries answer.
+pub mod Exports

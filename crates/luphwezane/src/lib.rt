@@ -1,0 +1,274 @@
+// The entries as C and Rust call them: a slice is a pointer and a length, settings and blocks are structs by value, and the answer is the number of
+// the refusal, 0 where the call is accepted. What an entry answers besides goes through the last parameters, which a refused call leaves alone.
+use model::Block;
+use model::Count;
+use model::Report;
+use model::Settings;
+ghost use Rattle.model.specs.Planes as planes;
+ghost use Rattle.model.specs.Promises.{RenderPost, OpenPost, GetPost, SetPost, CheckPost, HolesPost};
+ghost use Rattle.luphwezane.specs.Exports.{Rendered, OpenedOut, TriedOut, EditedOut, ReportOut, CountOut};
+
+// RENDER.
+#[no_mangle]
+pub extern "C" fn luph_raw_render(
+    settings: Settings,
+    view: u32,
+    texture: &[u8],
+    depths: &[u8],
+    samples: &mut [u8],
+    marks: &mut [u8],
+    fronts: &mut [u8],
+) -> u32
+    ensures { λ r. ⌜ Rendered (RenderPost settings view (now (texture .entry)) (now (depths .entry))
+        (planes.strip (now (samples .entry)) (now (marks .entry)) (now (fronts .entry)))
+        (planes.strip (now (samples .exit)) (now (marks .exit)) (now (fronts .exit)))) r ⌝ }
+{
+    let refusal = render::render(settings, view, texture, depths, samples, marks, fronts);
+    model::number(refusal)
+}
+
+// OPEN; the new total goes to `total`.
+#[no_mangle]
+pub extern "C" fn luph_raw_open(
+    settings: Settings,
+    left: &[u8],
+    right: &[u8],
+    reference: &[u8],
+    leftDepths: &[u8],
+    rightDepths: &[u8],
+    leftSamples: &mut [u8],
+    leftFronts: &mut [u8],
+    leftLimits: &mut [i16],
+    leftMarks: &mut [u8],
+    rightSamples: &mut [u8],
+    rightFronts: &mut [u8],
+    rightLimits: &mut [i16],
+    rightMarks: &mut [u8],
+    combined: &mut [u8],
+    total: &mut u64,
+) -> u32
+    ensures { λ r. ⌜ OpenedOut (OpenPost settings (planes.pictures (now (left .entry)) (now (right .entry)) (now (reference .entry))) (planes.depths (now (leftDepths .entry)) (now (rightDepths .entry)))
+        (planes.held (planes.view (now (leftSamples .entry)) (now (leftFronts .entry)) (now (leftLimits .entry)) (now (leftMarks .entry))) (planes.view (now (rightSamples .entry)) (now (rightFronts .entry)) (now (rightLimits .entry)) (now (rightMarks .entry))) (now (combined .entry)))
+        (planes.held (planes.view (now (leftSamples .exit)) (now (leftFronts .exit)) (now (leftLimits .exit)) (now (leftMarks .exit))) (planes.view (now (rightSamples .exit)) (now (rightFronts .exit)) (now (rightLimits .exit)) (now (rightMarks .exit))) (now (combined .exit)))) r (now (total .entry)) (now (total .exit)) ⌝ }
+{
+    let opened = open::open(
+        settings,
+        left,
+        right,
+        reference,
+        leftDepths,
+        rightDepths,
+        leftSamples,
+        leftFronts,
+        leftLimits,
+        leftMarks,
+        rightSamples,
+        rightFronts,
+        rightLimits,
+        rightMarks,
+        combined,
+    );
+    let refusal = opened.refusal;
+    let number = model::number(refusal);
+    if number == 0 {
+        let next = opened.settings;
+        *total = next.total;
+    }
+    number
+}
+
+// GET; the change of the total goes to `change`.
+#[no_mangle]
+pub extern "C" fn luph_raw_get(
+    settings: Settings,
+    left: &[u8],
+    right: &[u8],
+    reference: &[u8],
+    leftDepths: &[u8],
+    rightDepths: &[u8],
+    leftSamples: &[u8],
+    leftFronts: &[u8],
+    leftLimits: &[i16],
+    leftMarks: &[u8],
+    rightSamples: &[u8],
+    rightFronts: &[u8],
+    rightLimits: &[i16],
+    rightMarks: &[u8],
+    combined: &[u8],
+    view: u32,
+    block: Block,
+    candidate: &[u8],
+    change: &mut i64,
+) -> u32
+    ensures { λ r. ⌜ TriedOut (GetPost settings (planes.pictures (now (left .entry)) (now (right .entry)) (now (reference .entry))) (planes.depths (now (leftDepths .entry)) (now (rightDepths .entry)))
+        (planes.held (planes.view (now (leftSamples .entry)) (now (leftFronts .entry)) (now (leftLimits .entry)) (now (leftMarks .entry))) (planes.view (now (rightSamples .entry)) (now (rightFronts .entry)) (now (rightLimits .entry)) (now (rightMarks .entry))) (now (combined .entry))) view block (now (candidate .entry))) r (now (change .entry)) (now (change .exit)) ⌝ }
+{
+    let tried = get::get(
+        settings,
+        left,
+        right,
+        reference,
+        leftDepths,
+        rightDepths,
+        leftSamples,
+        leftFronts,
+        leftLimits,
+        leftMarks,
+        rightSamples,
+        rightFronts,
+        rightLimits,
+        rightMarks,
+        combined,
+        view,
+        block,
+        candidate,
+    );
+    let refusal = tried.refusal;
+    let number = model::number(refusal);
+    if number == 0 {
+        let found = tried.change;
+        *change = found;
+    }
+    number
+}
+
+// SET; the change of the total goes to `change` and the new total to `total`.
+#[no_mangle]
+pub extern "C" fn luph_raw_set(
+    settings: Settings,
+    left: &[u8],
+    right: &[u8],
+    reference: &[u8],
+    leftDepths: &mut [u8],
+    rightDepths: &mut [u8],
+    leftSamples: &mut [u8],
+    leftFronts: &mut [u8],
+    leftLimits: &mut [i16],
+    leftMarks: &mut [u8],
+    rightSamples: &mut [u8],
+    rightFronts: &mut [u8],
+    rightLimits: &mut [i16],
+    rightMarks: &mut [u8],
+    combined: &mut [u8],
+    view: u32,
+    block: Block,
+    candidate: &[u8],
+    change: &mut i64,
+    total: &mut u64,
+) -> u32
+    ensures { λ r. ⌜ EditedOut (SetPost settings (planes.pictures (now (left .entry)) (now (right .entry)) (now (reference .entry))) (planes.depths (now (leftDepths .entry)) (now (rightDepths .entry))) (planes.depths (now (leftDepths .exit)) (now (rightDepths .exit)))
+        (planes.held (planes.view (now (leftSamples .entry)) (now (leftFronts .entry)) (now (leftLimits .entry)) (now (leftMarks .entry))) (planes.view (now (rightSamples .entry)) (now (rightFronts .entry)) (now (rightLimits .entry)) (now (rightMarks .entry))) (now (combined .entry)))
+        (planes.held (planes.view (now (leftSamples .exit)) (now (leftFronts .exit)) (now (leftLimits .exit)) (now (leftMarks .exit))) (planes.view (now (rightSamples .exit)) (now (rightFronts .exit)) (now (rightLimits .exit)) (now (rightMarks .exit))) (now (combined .exit))) view block (now (candidate .entry))) r (now (change .entry)) (now (change .exit)) (now (total .entry)) (now (total .exit)) ⌝ }
+{
+    let edited = set::set(
+        settings,
+        left,
+        right,
+        reference,
+        leftDepths,
+        rightDepths,
+        leftSamples,
+        leftFronts,
+        leftLimits,
+        leftMarks,
+        rightSamples,
+        rightFronts,
+        rightLimits,
+        rightMarks,
+        combined,
+        view,
+        block,
+        candidate,
+    );
+    let refusal = edited.refusal;
+    let number = model::number(refusal);
+    if number == 0 {
+        let next = edited.settings;
+        let found = edited.change;
+        *change = found;
+        *total = next.total;
+    }
+    number
+}
+
+// CHECK; what it reports goes to `kind` (0 sound, 1 a difference, 2 the total) and, for a difference, `row` and `column`.
+#[no_mangle]
+pub extern "C" fn luph_raw_check(
+    settings: Settings,
+    left: &[u8],
+    right: &[u8],
+    reference: &[u8],
+    leftDepths: &[u8],
+    rightDepths: &[u8],
+    leftSamples: &[u8],
+    leftFronts: &[u8],
+    leftLimits: &[i16],
+    leftMarks: &[u8],
+    rightSamples: &[u8],
+    rightFronts: &[u8],
+    rightLimits: &[i16],
+    rightMarks: &[u8],
+    combined: &[u8],
+    kind: &mut u32,
+    row: &mut u32,
+    column: &mut u32,
+) -> u32
+    ensures { λ r. ⌜ ReportOut (CheckPost settings (planes.pictures (now (left .entry)) (now (right .entry)) (now (reference .entry))) (planes.depths (now (leftDepths .entry)) (now (rightDepths .entry)))
+        (planes.held (planes.view (now (leftSamples .entry)) (now (leftFronts .entry)) (now (leftLimits .entry)) (now (leftMarks .entry))) (planes.view (now (rightSamples .entry)) (now (rightFronts .entry)) (now (rightLimits .entry)) (now (rightMarks .entry))) (now (combined .entry)))) r (now (kind .entry)) (now (row .entry)) (now (column .entry)) (now (kind .exit)) (now (row .exit)) (now (column .exit)) ⌝ }
+{
+    let report = checks::check(
+        settings,
+        left,
+        right,
+        reference,
+        leftDepths,
+        rightDepths,
+        leftSamples,
+        leftFronts,
+        leftLimits,
+        leftMarks,
+        rightSamples,
+        rightFronts,
+        rightLimits,
+        rightMarks,
+        combined,
+    );
+    match report {
+        Report::Refused(refusal) => model::number(refusal),
+        Report::Sound => {
+            *kind = 0;
+            0
+        }
+        Report::Difference { row: y, column: x } => {
+            *kind = 1;
+            *row = y;
+            *column = x;
+            0
+        }
+        Report::Total => {
+            *kind = 2;
+            0
+        }
+    }
+}
+
+// HOLES; the count goes to `count`.
+#[no_mangle]
+pub extern "C" fn luph_raw_holes(
+    settings: Settings,
+    view: u32,
+    left: &[u8],
+    right: &[u8],
+    count: &mut u64,
+) -> u32
+    ensures { λ r. ⌜ CountOut (HolesPost settings view (now (left .entry)) (now (right .entry))) r (now (count .entry)) (now (count .exit)) ⌝ }
+{
+    let counted = holes::holes(settings, view, left, right);
+    match counted {
+        Count::Refused(refusal) => model::number(refusal),
+        Count::Holes(n) => {
+            *count = n;
+            0
+        }
+    }
+}

@@ -1,0 +1,78 @@
+-- `put_row` meets its contract. The loop's invariant: the header and the lines of the positions below p are written.
+use Prim.Native.Nat.{_≤_, _-_}
+use native.Mathlib.Omega.{arith}
+use borrow.Author.Needs.{needs}
+use Rattle.rowprint.specs.Printed.{headerOf}
+use Rattle.rowprint.specs.Steps.{shownLine}
+use Rattle.rowprint.proofs.Puts.{Lines, lines-none, lines-next, lines-all, put-shown}
+use Rattle.rowprint.proofs.put_row.Statement.{statement}
+use Rattle.rowprint.proofs.put_row.Tie as tie
+
+abbrev Inv-loop : tie.InvT-loop
+Inv-loop out₀ w samples marks fronts at₀ p₀ out at p = (p ≤ w) × Lines (shownLine samples marks fronts) (headerOf w) out₀ out at p
+
+abbrev μ-loop : tie.MeasureT-loop
+μ-loop out₀ w samples marks fronts at₀ p₀ out at p = w - p
+
+put-header-requires : tie.Need-put-header-requires Inv-loop μ-loop
+put-header-requires c κs = search needs
+
+loop-holds : tie.Need-loop-holds Inv-loop μ-loop
+loop-holds c =
+    let a = c .before .before .before .before .before .before .before .before .args in
+    (omega arith, lines-none (shownLine (a .samples .now) (a .marks .now) (a .fronts .now)) (headerOf (a .w)) (c .before .before .put-header .ensures))
+
+shared-slice-read-put-position : tie.Need-shared-slice-read-put-position Inv-loop μ-loop
+shared-slice-read-put-position c = search needs
+
+mark-at-requires : tie.Need-mark-at-requires Inv-loop μ-loop
+mark-at-requires c κs = search needs
+
+shared-slice-read-put-position-2 : tie.Need-shared-slice-read-put-position-2 Inv-loop μ-loop
+shared-slice-read-put-position-2 c = search needs
+
+put-position-requires : tie.Need-put-position-requires Inv-loop μ-loop
+put-position-requires c κs = search needs
+
+add-p : tie.Need-add-p Inv-loop μ-loop
+add-p c = search needs
+
+loop-less : tie.Need-loop-less Inv-loop μ-loop
+loop-less c = search needs
+
+loop-again : tie.Need-loop-again Inv-loop μ-loop
+loop-again c =
+    let a = c .before .before .before .before .before .before .before .before .before .before .before .before .before .before .before .before .before .args in
+    let i = c .before .before .before .before .before .before .before .before .loop in
+    let mark = c .before .before .before .before .mark-at in (
+      omega arith,
+      lines-next (shownLine (a .samples .now) (a .marks .now) (a .fronts .now)) (headerOf (a .w)) (i .p) (i .inv .1)
+          (put-shown (a .samples .now) (a .marks .now) (a .fronts .now) (i .p) (mark .result) (mark .ensures) (c .before .before .put-position .ensures)),
+    )
+
+same-length : tie.Need-same-length Inv-loop μ-loop
+same-length c = search needs
+
+returns : tie.Need-returns Inv-loop μ-loop
+returns c =
+    let a = c .before .before .before .before .before .before .before .before .before .before .args in
+    let i = c .before .loop in
+    lines-all (shownLine (a .samples .now) (a .marks .now) (a .fronts .now)) (headerOf (a .w)) (i .p) (a .w) (i .inv .0) (c .loop-test .left) (omega arith) (c .before .before .before .before .put-header .ensures) (i .inv .1)
+
+pub put-row-spec : {M : Type 1} → statement M
+put-row-spec =
+    tie.close
+    (tie.spec
+    Inv-loop
+    μ-loop
+    put-header-requires
+    loop-holds
+    shared-slice-read-put-position
+    mark-at-requires
+    shared-slice-read-put-position-2
+    put-position-requires
+    add-p
+    loop-less
+    loop-again
+    same-length
+    returns)

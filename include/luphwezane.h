@@ -1,0 +1,306 @@
+/*
+ * Luphwezane: held views and distortion change for two cameras with depth.
+ *
+ * Include this header and link libluphwezane.a (x86-64):
+ *
+ *     cc -I include program.c target/staticlib/libluphwezane.a
+ *
+ * A session is a luph_settings record, the pictures it is about and the planes that the caller keeps for it.
+ * luph_open fills the held planes. luph_get answers how the total would change if a block of depths were
+ * replaced, and writes nothing; luph_set replaces it. Between these calls the caller keeps pictures, planes and
+ * settings as the last call left them.
+ *
+ * Lengths, in entries, for w columns and h rows, all in row order:
+ *
+ *     textures, reference, depths, samples, fronts, limits, combined     w * h
+ *     marks                                                              ((w + 7) / 8) * h
+ *
+ * Marks are packed: the mark of column x of a row is bit x % 8 of byte x / 8 of that row; bits past the last
+ * column are zero.
+ *
+ * Every call answers 0 (LUPH_ACCEPTED) or the number of the first refusal that applies, in the order given with
+ * the call. A refused call writes nothing: no plane, no settings, no answer.
+ *
+ * Planes must not overlap: a plane that is lent for writing shares no byte with any other argument of the call.
+ * Lengths and numbers may be anything. A `data` of NULL counts as length 0. Pointers to structs and to answers
+ * must be valid.
+ *
+ * The library keeps no state of its own and allocates nothing. Calls on different sessions may run at the same
+ * time, and so may calls that only read (luph_get, luph_check, luph_holes) on one session.
+ */
+#ifndef LUPHWEZANE_H
+#define LUPHWEZANE_H
+
+#include <stddef.h>
+#include <stdint.h>
+
+/* What a call answers. */
+enum {
+    LUPH_ACCEPTED = 0,
+    LUPH_REFUSED_SIZE = 1,      /* w or h outside 1 to 4,096 */
+    LUPH_REFUSED_PLANE = 2,     /* a plane without its exact length */
+    LUPH_REFUSED_TABLE = 3,     /* an entry of either table above 1,023 */
+    LUPH_REFUSED_SHARE = 4,     /* share above 64 */
+    LUPH_REFUSED_BOUNDS = 5,    /* a block of zero width or height, or reaching past an edge */
+    LUPH_REFUSED_VIEW = 6,      /* a view neither 0 nor 1 */
+    LUPH_REFUSED_CANDIDATE = 7, /* a candidate whose length is not width * height */
+    LUPH_REFUSED_TOTAL = 8      /* total plus change below 0 or above 65,025 * w * h; never in a session that is kept as above */
+};
+
+/* The settings of a session. */
+typedef struct luph_settings {
+    uint32_t w;          /* columns, 1 to 4,096 */
+    uint32_t h;          /* rows, 1 to 4,096 */
+    uint16_t left[256];  /* the left view's disparity of each depth, in quarter samples, 0 to 1,023 */
+    uint16_t right[256]; /* the same for the right view */
+    uint8_t share;       /* the right view's part where both views show a position, in 64ths, 0 to 64 */
+    uint8_t tolerance;   /* how far front depths may differ for both views to be mixed */
+    uint64_t total;      /* the sum of squared errors of the combined picture; luph_open and luph_set write it */
+} luph_settings;
+
+/* 8-bit entries that a call only reads. */
+typedef struct luph_in {
+    const uint8_t *data; /* the first entry */
+    size_t len;          /* the number of entries */
+} luph_in;
+
+/* 8-bit entries that a call may write. */
+typedef struct luph_out {
+    uint8_t *data; /* the first entry */
+    size_t len;    /* the number of entries */
+} luph_out;
+
+/* Limits, which are signed, in quarter samples. */
+typedef struct luph_limits {
+    int16_t *data; /* the first entry */
+    size_t len;    /* the number of entries */
+} luph_limits;
+
+/* The pictures of a session, which no call writes. View 0 is left, view 1 right. */
+typedef struct luph_pictures {
+    luph_in texture[2]; /* each view's texture */
+    luph_in reference;  /* what the combined picture is measured against */
+} luph_pictures;
+
+/* The planes of a session. Depths are given to luph_open and written by luph_set; the others are held. */
+typedef struct luph_planes {
+    luph_out depth[2];    /* each view's depths, larger is nearer */
+    luph_out sample[2];   /* each view's drawn samples */
+    luph_out front[2];    /* the depth that is seen at each drawn position */
+    luph_out marks[2];    /* each view's hole marks, packed; 1 is a hole */
+    luph_out combined;    /* the picture combined from both views */
+    luph_limits limit[2]; /* each view's limits */
+} luph_planes;
+
+/* A block of a depth plane. */
+typedef struct luph_block {
+    uint32_t column; /* its first column */
+    uint32_t row;    /* its first row */
+    uint32_t width;  /* its columns, at least 1 */
+    uint32_t height; /* its rows, at least 1 */
+} luph_block;
+
+/* What luph_check found. */
+typedef struct luph_report {
+    int kind;        /* 0 sound, 1 a difference at row and column, 2 only the total differs */
+    uint32_t row;    /* row of the first difference by rows; 0 for other kinds */
+    uint32_t column; /* its column; 0 for other kinds */
+} luph_report;
+
+/* ---- The symbols of the library, for the functions below only. A slice is a pointer and then a length. ---- */
+
+#ifdef __cplusplus
+extern "C" {
+#endif
+
+#define LUPH_RAW_IN(name) const uint8_t *name, size_t name##_len
+#define LUPH_RAW_OUT(name) uint8_t *name, size_t name##_len
+#define LUPH_RAW_IN_LIMITS(name) const int16_t *name, size_t name##_len
+#define LUPH_RAW_OUT_LIMITS(name) int16_t *name, size_t name##_len
+#define LUPH_RAW_PICTURES LUPH_RAW_IN(left_texture), LUPH_RAW_IN(right_texture), LUPH_RAW_IN(reference)
+#define LUPH_RAW_DEPTHS(bytes) bytes(left_depths), bytes(right_depths)
+#define LUPH_RAW_HELD(bytes, limits)                                                              \
+    bytes(left_samples), bytes(left_fronts), limits(left_limits), bytes(left_marks),              \
+    bytes(right_samples), bytes(right_fronts), limits(right_limits), bytes(right_marks), bytes(combined)
+
+uint32_t luph_raw_render(luph_settings settings, uint32_t view, LUPH_RAW_IN(texture), LUPH_RAW_IN(depths),
+    LUPH_RAW_OUT(samples), LUPH_RAW_OUT(marks), LUPH_RAW_OUT(fronts));
+uint32_t luph_raw_open(luph_settings settings, LUPH_RAW_PICTURES, LUPH_RAW_DEPTHS(LUPH_RAW_IN),
+    LUPH_RAW_HELD(LUPH_RAW_OUT, LUPH_RAW_OUT_LIMITS), uint64_t *total);
+uint32_t luph_raw_get(luph_settings settings, LUPH_RAW_PICTURES, LUPH_RAW_DEPTHS(LUPH_RAW_IN),
+    LUPH_RAW_HELD(LUPH_RAW_IN, LUPH_RAW_IN_LIMITS), uint32_t view, luph_block block, LUPH_RAW_IN(candidate), int64_t *change);
+uint32_t luph_raw_set(luph_settings settings, LUPH_RAW_PICTURES, LUPH_RAW_DEPTHS(LUPH_RAW_OUT),
+    LUPH_RAW_HELD(LUPH_RAW_OUT, LUPH_RAW_OUT_LIMITS), uint32_t view, luph_block block, LUPH_RAW_IN(candidate), int64_t *change,
+    uint64_t *total);
+uint32_t luph_raw_check(luph_settings settings, LUPH_RAW_PICTURES, LUPH_RAW_DEPTHS(LUPH_RAW_IN),
+    LUPH_RAW_HELD(LUPH_RAW_IN, LUPH_RAW_IN_LIMITS), uint32_t *kind, uint32_t *row, uint32_t *column);
+uint32_t luph_raw_holes(luph_settings settings, uint32_t view, LUPH_RAW_IN(left_marks), LUPH_RAW_IN(right_marks), uint64_t *count);
+
+#undef LUPH_RAW_IN
+#undef LUPH_RAW_OUT
+#undef LUPH_RAW_IN_LIMITS
+#undef LUPH_RAW_OUT_LIMITS
+#undef LUPH_RAW_PICTURES
+#undef LUPH_RAW_DEPTHS
+#undef LUPH_RAW_HELD
+
+#ifdef __cplusplus
+}
+#endif
+
+/* The same slice; a NULL becomes a slice of length 0 whose pointer is valid. */
+static inline luph_in luph_private_in(luph_in x) {
+    static const uint8_t none = 0;
+    if (x.data == NULL) {
+        x.data = &none;
+        x.len = 0;
+    }
+    return x;
+}
+
+static inline luph_out luph_private_out(luph_out x) {
+    static uint8_t none = 0;
+    if (x.data == NULL) {
+        x.data = &none;
+        x.len = 0;
+    }
+    return x;
+}
+
+static inline luph_limits luph_private_limits(luph_limits x) {
+    static int16_t none = 0;
+    if (x.data == NULL) {
+        x.data = &none;
+        x.len = 0;
+    }
+    return x;
+}
+
+static inline luph_pictures luph_private_pictures(const luph_pictures *p) {
+    luph_pictures x = *p;
+    for (int v = 0; v < 2; v++) x.texture[v] = luph_private_in(x.texture[v]);
+    x.reference = luph_private_in(x.reference);
+    return x;
+}
+
+static inline luph_planes luph_private_planes(const luph_planes *q) {
+    luph_planes x = *q;
+    for (int v = 0; v < 2; v++) {
+        x.depth[v] = luph_private_out(x.depth[v]);
+        x.sample[v] = luph_private_out(x.sample[v]);
+        x.front[v] = luph_private_out(x.front[v]);
+        x.marks[v] = luph_private_out(x.marks[v]);
+        x.limit[v] = luph_private_limits(x.limit[v]);
+    }
+    x.combined = luph_private_out(x.combined);
+    return x;
+}
+
+/* How pictures and planes are written as arguments. */
+#define LUPH_RAW_SLICE(x) (x).data, (x).len
+#define LUPH_RAW_ALL(p, q)                                                                                                   \
+    LUPH_RAW_SLICE((p).texture[0]), LUPH_RAW_SLICE((p).texture[1]), LUPH_RAW_SLICE((p).reference),                           \
+    LUPH_RAW_SLICE((q).depth[0]), LUPH_RAW_SLICE((q).depth[1]),                                                              \
+    LUPH_RAW_SLICE((q).sample[0]), LUPH_RAW_SLICE((q).front[0]), LUPH_RAW_SLICE((q).limit[0]), LUPH_RAW_SLICE((q).marks[0]), \
+    LUPH_RAW_SLICE((q).sample[1]), LUPH_RAW_SLICE((q).front[1]), LUPH_RAW_SLICE((q).limit[1]), LUPH_RAW_SLICE((q).marks[1]), \
+    LUPH_RAW_SLICE((q).combined)
+
+/* ---- The calls. ---- */
+
+/*
+ * RENDER: draws one row of one view, with that view's table, into samples, packed marks and front depths.
+ * texture, depth, sample and front have s->w entries, marks (s->w + 7) / 8; s->h, share, tolerance and total
+ * are not looked at. Refuses 1 (by w alone), 2, 3, then 6.
+ */
+static inline int luph_render(const luph_settings *s, uint32_t view, luph_in texture, luph_in depth, luph_out sample, luph_out marks,
+    luph_out front) {
+    texture = luph_private_in(texture);
+    depth = luph_private_in(depth);
+    sample = luph_private_out(sample);
+    marks = luph_private_out(marks);
+    front = luph_private_out(front);
+    return (int)luph_raw_render(*s, view, LUPH_RAW_SLICE(texture), LUPH_RAW_SLICE(depth), LUPH_RAW_SLICE(sample), LUPH_RAW_SLICE(marks),
+        LUPH_RAW_SLICE(front));
+}
+
+/*
+ * OPEN: draws both views from pictures and depths into the held planes and writes the total to s->total; the
+ * total passed in is ignored. Depths are only read. Refuses 1, 2, 3, 4.
+ */
+static inline int luph_open(luph_settings *s, const luph_pictures *p, const luph_planes *q) {
+    const luph_pictures pictures = luph_private_pictures(p);
+    const luph_planes planes = luph_private_planes(q);
+    uint64_t total = 0;
+    const uint32_t number = luph_raw_open(*s, LUPH_RAW_ALL(pictures, planes), &total);
+    if (number == 0) s->total = total;
+    return (int)number;
+}
+
+/*
+ * GET: answers in *change how the total would change if the block of the view's depths were the candidate, whose
+ * width * height depths come in row order. Writes no plane. Refuses 1, 2, 3, 4, 6, 5, 7, then 8.
+ */
+static inline int luph_get(const luph_settings *s, const luph_pictures *p, const luph_planes *q, uint32_t view, luph_block b,
+    luph_in candidate, int64_t *change) {
+    const luph_pictures pictures = luph_private_pictures(p);
+    const luph_planes planes = luph_private_planes(q);
+    const luph_in depths = luph_private_in(candidate);
+    int64_t found = 0;
+    const uint32_t number = luph_raw_get(*s, LUPH_RAW_ALL(pictures, planes), view, b, LUPH_RAW_SLICE(depths), &found);
+    if (number == 0) *change = found;
+    return (int)number;
+}
+
+/*
+ * SET: writes the candidate into the block, brings the held planes up to date, and answers the change in *change
+ * and the new total in s->total. Refuses as GET does, in that order.
+ */
+static inline int luph_set(luph_settings *s, const luph_pictures *p, const luph_planes *q, uint32_t view, luph_block b, luph_in candidate,
+    int64_t *change) {
+    const luph_pictures pictures = luph_private_pictures(p);
+    const luph_planes planes = luph_private_planes(q);
+    const luph_in depths = luph_private_in(candidate);
+    int64_t found = 0;
+    uint64_t total = 0;
+    const uint32_t number = luph_raw_set(*s, LUPH_RAW_ALL(pictures, planes), view, b, LUPH_RAW_SLICE(depths), &found, &total);
+    if (number == 0) {
+        *change = found;
+        s->total = total;
+    }
+    return (int)number;
+}
+
+/*
+ * CHECK: compares every held entry with a fresh drawing of the depths and answers in *r: sound, or row and column
+ * of the first difference by rows, or the total if only that differs. Bits past a row's last column count with
+ * that column. Writes no plane. Refuses 1, 2, 3, 4.
+ */
+static inline int luph_check(const luph_settings *s, const luph_pictures *p, const luph_planes *q, luph_report *r) {
+    const luph_pictures pictures = luph_private_pictures(p);
+    const luph_planes planes = luph_private_planes(q);
+    uint32_t kind = 0, row = 0, column = 0;
+    const uint32_t number = luph_raw_check(*s, LUPH_RAW_ALL(pictures, planes), &kind, &row, &column);
+    if (number == 0) {
+        r->kind = (int)kind;
+        r->row = kind == 1 ? row : 0;
+        r->column = kind == 1 ? column : 0;
+    }
+    return (int)number;
+}
+
+/*
+ * HOLES: counts in *count the chosen view's marks of 1 at columns below w. marks0 and marks1 are the left and the
+ * right view's marks. Refuses 1, 2, then 6.
+ */
+static inline int luph_holes(const luph_settings *s, uint32_t view, luph_in marks0, luph_in marks1, uint64_t *count) {
+    const luph_in left = luph_private_in(marks0), right = luph_private_in(marks1);
+    uint64_t found = 0;
+    const uint32_t number = luph_raw_holes(*s, view, LUPH_RAW_SLICE(left), LUPH_RAW_SLICE(right), &found);
+    if (number == 0) *count = found;
+    return (int)number;
+}
+
+#undef LUPH_RAW_SLICE
+#undef LUPH_RAW_ALL
+
+#endif

@@ -1,0 +1,234 @@
+//! A first session to look at. An encoder-like search improves two coarse depth maps: for each block it tries a few hundred
+//! candidates with GET and keeps the best with SET. It prints a table and writes pictures.
+
+mod encoder;
+mod pgm;
+mod scene;
+
+use luphwezane::{Pictures, Report, Session, Settings, View};
+use std::io::{IsTerminal, Write};
+use std::path::{Path, PathBuf};
+use std::process::ExitCode;
+
+const HELP: &str = "\
+usage: demo [--out FOLDER] [--disparity QUARTERS] [LEFT RIGHT REFERENCE LEFT-DEPTH RIGHT-DEPTH]
+
+Improves two depth maps block by block and writes PGM pictures of what became of it to FOLDER (target/demo).
+Without files it makes a scene of its own. With files, PGM pictures of one size with 8-bit samples:
+
+  LEFT, RIGHT               what the two cameras saw
+  REFERENCE                 what is to be seen from between them
+  LEFT-DEPTH, RIGHT-DEPTH   the depth maps to begin with, larger is nearer
+
+QUARTERS is the shift of the nearest depth, 255, in quarter samples, 0 to 1,023 (96).
+";
+
+struct Options {
+    out: PathBuf,
+    disparity: u16,
+    files: Vec<PathBuf>,
+}
+
+/// The options, or nothing where help is asked for.
+fn options(mut arguments: impl Iterator<Item = String>) -> Result<Option<Options>, String> {
+    let mut options = Options { out: PathBuf::from("target/demo"), disparity: 96, files: Vec::new() };
+    while let Some(argument) = arguments.next() {
+        match argument.as_str() {
+            "--help" | "-h" => return Ok(None),
+            "--out" => options.out = arguments.next().ok_or("--out needs a folder")?.into(),
+            "--disparity" => {
+                let number = arguments.next().and_then(|text| text.parse().ok()).filter(|&number| number <= 1023);
+                options.disparity = number.ok_or("--disparity needs a number from 0 to 1023")?;
+            }
+            other if other.starts_with("--") => return Err(format!("{other} is not an option (see --help)")),
+            file => options.files.push(file.into()),
+        }
+    }
+    match options.files.len() {
+        0 | 5 => Ok(Some(options)),
+        n => Err(format!("{n} files, but five are needed: left, right, reference, left depth, right depth (see --help)")),
+    }
+}
+
+/// What a session is opened with.
+struct Input {
+    name: &'static str,
+    w: usize,
+    h: usize,
+    textures: [Vec<u8>; 2],
+    reference: Vec<u8>,
+    depths: [Vec<u8>; 2],
+}
+
+fn made(disparity: u16) -> Input {
+    let scene = scene::made(320, 192, &scene::table(disparity));
+    let depths = scene.depths.map(|depths| scene::coarse(&depths, scene.w, scene.h, 16));
+    Input { name: "a made scene", w: scene.w, h: scene.h, textures: scene.textures, reference: scene.reference, depths }
+}
+
+fn read(files: &[PathBuf]) -> Result<Input, String> {
+    let pictures = files.iter().map(|file| pgm::read(file)).collect::<Result<Vec<_>, _>>()?;
+    let (w, h) = (pictures[0].w, pictures[0].h);
+    for (file, picture) in files.iter().zip(&pictures) {
+        if (picture.w, picture.h) != (w, h) {
+            let (file, first) = (file.display(), files[0].display());
+            return Err(format!("{file} is {} × {}, but {first} is {w} × {h}: all five must have one size", picture.w, picture.h));
+        }
+    }
+    let mut planes = pictures.into_iter().map(|picture| picture.samples);
+    let mut next = || planes.next().expect("there are five files");
+    Ok(Input { name: "pictures from files", w, h, textures: [next(), next()], reference: next(), depths: [next(), next()] })
+}
+
+fn main() -> ExitCode {
+    let result = options(std::env::args().skip(1)).and_then(|options| match options {
+        Some(options) => run(&options),
+        None => {
+            print!("{HELP}");
+            Ok(())
+        }
+    });
+    match result {
+        Ok(()) => ExitCode::SUCCESS,
+        Err(what) => {
+            eprintln!("demo: {what}");
+            ExitCode::FAILURE
+        }
+    }
+}
+
+fn run(options: &Options) -> Result<(), String> {
+    let input = if options.files.is_empty() { made(options.disparity) } else { read(&options.files)? };
+    std::fs::create_dir_all(&options.out).map_err(|error| format!("{} cannot be made: {error}", options.out.display()))?;
+    let table = scene::table(options.disparity);
+    let settings = Settings { w: input.w as u32, h: input.h as u32, left: table, right: table, share: 32, tolerance: 16, total: 0 };
+    let pictures = Pictures { textures: [&input.textures[0], &input.textures[1]], reference: &input.reference };
+    let depths = [&input.depths[0][..], &input.depths[1][..]];
+    let mut session = Session::open(&settings, &pictures, depths).map_err(|refusal| refusal.to_string())?;
+
+    println!("Luphwezane: {}, {} × {}, blocks of {} × {}", input.name, input.w, input.h, encoder::SIDE, encoder::SIDE);
+    println!();
+    print_line(["step", "trials", "blocks set", "change of total", "total", "PSNR"]);
+    print_line(["open", "", "", "", &thousands(session.total() as i64), &psnr(&session)]);
+    write_inputs(&options.out, &session)?;
+    write_outputs(&options.out, "before", &session)?;
+    for round in 1..=2 {
+        for view in View::BOTH {
+            improve(&mut session, view, round)?;
+        }
+    }
+    write_outputs(&options.out, "after", &session)?;
+
+    let report = session.check();
+    println!();
+    println!("check   {}", if report == Report::Sound { "sound".into() } else { format!("{report:?}") });
+    println!("holes   left {}, right {}", thousands(session.holes(View::Left) as i64), thousands(session.holes(View::Right) as i64));
+    println!("pictures in {}: combined, holes, errors and depths, each before and after", options.out.display());
+    match report {
+        Report::Sound => Ok(()),
+        _ => Err("the session is not sound".into()),
+    }
+}
+
+/// One pass over a view, and its line of the table.
+fn improve(session: &mut Session, view: View, round: u32) -> Result<(), String> {
+    let name = format!("{}, round {round}", if view == View::Left { "left" } else { "right" });
+    let mut progress = Progress::new(&name);
+    let pass = encoder::pass(session, view, |done, all| progress.show(done, all)).map_err(|refusal| refusal.to_string())?;
+    progress.clear();
+    let cells = [pass.trials as i64, pass.blocks as i64, pass.change, session.total() as i64].map(thousands);
+    print_line([&name, &cells[0], &cells[1], &cells[2], &cells[3], &psnr(session)]);
+    Ok(())
+}
+
+/// A line of the table.
+fn print_line([step, trials, blocks, change, total, psnr]: [&str; 6]) {
+    println!("{step:<14} {trials:>9}   {blocks:>10}   {change:>15}   {total:>13}   {psnr:>8}");
+}
+
+/// A line that is written over and over, on a terminal only.
+struct Progress<'a> {
+    name: &'a str,
+    shown: Option<usize>,
+    terminal: bool,
+}
+
+impl Progress<'_> {
+    fn new(name: &str) -> Progress<'_> {
+        Progress { name, shown: None, terminal: std::io::stdout().is_terminal() }
+    }
+
+    fn show(&mut self, done: usize, all: usize) {
+        let percent = 100 * done / all;
+        if self.terminal && self.shown != Some(percent) {
+            print!("\r{:<14} {percent:>7} %  {}", self.name, "=".repeat(percent / 4));
+            let _ = std::io::stdout().flush();
+            self.shown = Some(percent);
+        }
+    }
+
+    fn clear(&self) {
+        if self.terminal {
+            print!("\r\x1b[K");
+        }
+    }
+}
+
+/// A whole number with its thousands set apart.
+fn thousands(number: i64) -> String {
+    let digits = number.unsigned_abs().to_string();
+    let mut text = String::new();
+    for (k, digit) in digits.chars().enumerate() {
+        if k > 0 && (digits.len() - k) % 3 == 0 {
+            text.push(',');
+        }
+        text.push(digit);
+    }
+    if number < 0 {
+        text.insert(0, '-');
+    }
+    text
+}
+
+/// The peak signal-to-noise ratio of the combined picture.
+fn psnr(session: &Session) -> String {
+    match session.total() {
+        0 => "exact".into(),
+        total => {
+            let area = session.planes().combined.len() as f64;
+            format!("{:.2} dB", 10.0 * (65025.0 * area / total as f64).log10())
+        }
+    }
+}
+
+/// What a session was opened with, so that it can be repeated from files.
+fn write_inputs(out: &Path, session: &Session) -> Result<(), String> {
+    let pictures = session.pictures();
+    picture(out, "left", session, pictures.textures[0])?;
+    picture(out, "right", session, pictures.textures[1])?;
+    picture(out, "reference", session, pictures.reference)
+}
+
+/// The combined picture, each view's holes (white), the errors (four times as large) and the depths.
+fn write_outputs(out: &Path, when: &str, session: &Session) -> Result<(), String> {
+    let (planes, reference) = (session.planes(), session.pictures().reference);
+    picture(out, &format!("combined-{when}"), session, planes.combined)?;
+    let errors: Vec<u8> = planes.combined.iter().zip(reference).map(|(a, b)| a.abs_diff(*b).saturating_mul(4)).collect();
+    picture(out, &format!("errors-{when}"), session, &errors)?;
+    for (view, name) in View::BOTH.into_iter().zip(["left", "right"]) {
+        picture(out, &format!("holes-{name}-{when}"), session, &holes(session, view))?;
+        picture(out, &format!("depth-{name}-{when}"), session, planes.depths[view as usize])?;
+    }
+    Ok(())
+}
+
+fn holes(session: &Session, view: View) -> Vec<u8> {
+    let Settings { w, h, .. } = *session.settings();
+    let places = (0..h).flat_map(|y| (0..w).map(move |x| (x, y)));
+    places.map(|(x, y)| if session.is_hole(view, x, y) { 255 } else { 0 }).collect()
+}
+
+fn picture(out: &Path, name: &str, session: &Session, samples: &[u8]) -> Result<(), String> {
+    let Settings { w, h, .. } = *session.settings();
+    pgm::write(&out.join(format!("{name}.pgm")), w as usize, h as usize, samples)
+}

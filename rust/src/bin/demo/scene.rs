@@ -1,0 +1,138 @@
+//! A made scene: a wall and a floor with a ball, a box, a pole and a sign in front of them, seen by two cameras and from
+//! the place between them. All numbers are whole, so that it is the same everywhere.
+#![allow(dead_code)] // each program uses its own part
+
+/// Two textures with their depths, and what is seen from between.
+pub struct Scene {
+    pub w: usize,
+    pub h: usize,
+    pub textures: [Vec<u8>; 2],
+    pub reference: Vec<u8>,
+    pub depths: [Vec<u8>; 2],
+}
+
+/// Disparities in quarter samples that rise with the depth, 0 to `largest`.
+pub fn table(largest: u16) -> [u16; 256] {
+    std::array::from_fn(|d| (d as u32 * u32::from(largest) / 255) as u16)
+}
+
+/// The scene at w × h for these disparities.
+pub fn made(w: usize, h: usize, table: &[u16; 256]) -> Scene {
+    let stage = Stage { w: w as i32, h: h as i32, table };
+    let draw = |side: i32, seed: u32| -> (Vec<u8>, Vec<u8>) {
+        let places = (0..h as i32).flat_map(|y| (0..w as i32).map(move |x| (x, y)));
+        places.map(|(x, y)| stage.seen(side, seed, x, y)).unzip()
+    };
+    let ((left, left_depths), (right, right_depths), (reference, _)) = (draw(-1, 1), draw(1, 2), draw(0, 3));
+    Scene { w, h, textures: [left, right], reference, depths: [left_depths, right_depths] }
+}
+
+/// Depths at a coarse resolution: the nearest of each block.
+pub fn coarse(depths: &[u8], w: usize, h: usize, side: usize) -> Vec<u8> {
+    let mut plane = vec![0; w * h];
+    for row in (0..h).step_by(side) {
+        for column in (0..w).step_by(side) {
+            let places = || (row..h.min(row + side)).flat_map(|y| (column..w.min(column + side)).map(move |x| y * w + x));
+            let nearest = places().map(|at| depths[at]).max().expect("a block has a place");
+            places().for_each(|at| plane[at] = nearest);
+        }
+    }
+    plane
+}
+
+struct Stage<'a> {
+    w: i32,
+    h: i32,
+    table: &'a [u16; 256],
+}
+
+/// Things from near to far. Their outlines are on a stage of 320 × 192.
+#[derive(Clone, Copy)]
+enum Thing {
+    Pole,
+    Ball,
+    Box,
+    Sign,
+    Ground,
+}
+
+const THINGS: [Thing; 5] = [Thing::Pole, Thing::Ball, Thing::Box, Thing::Sign, Thing::Ground];
+
+impl Stage<'_> {
+    /// Sample and depth at column x of row y: side −1 is the left camera, 1 the right, 0 the place between.
+    fn seen(&self, side: i32, seed: u32, x: i32, y: i32) -> (u8, u8) {
+        for thing in THINGS {
+            let depth = self.depth(thing, y);
+            let quarters = 4 * x + side * i32::from(self.table[usize::from(depth)]);
+            if self.covers(thing, quarters, y) {
+                let grain = (hash(x, y, seed) % 5) as i32 - 2;
+                return ((self.sample(thing, quarters, y) + grain).clamp(0, 255) as u8, depth);
+            }
+        }
+        unreachable!("the ground is everywhere");
+    }
+
+    /// The stage's place of a number of quarters and a row, in quarters and rows of 320 × 192.
+    fn stage(&self, quarters: i32, y: i32) -> (i32, i32) {
+        (quarters * 320 / self.w, y * 192 / self.h)
+    }
+
+    fn depth(&self, thing: Thing, y: i32) -> u8 {
+        let (_, y) = self.stage(0, y);
+        match thing {
+            Thing::Pole => 225,
+            Thing::Ball => 190,
+            Thing::Box => 140,
+            Thing::Sign => 96,
+            Thing::Ground if y < 120 => 40,
+            Thing::Ground => (40 + (y - 120) * 3 / 4) as u8,
+        }
+    }
+
+    fn covers(&self, thing: Thing, quarters: i32, y: i32) -> bool {
+        let (x, y) = self.stage(quarters, y);
+        match thing {
+            Thing::Pole => (4 * 248..4 * 257).contains(&x) && (18..172).contains(&y),
+            Thing::Ball => (x - 4 * 112).pow(2) + (4 * (y - 112)).pow(2) < (4 * 44_i32).pow(2),
+            Thing::Box => (4 * 190..4 * 296).contains(&x) && (86..158).contains(&y),
+            Thing::Sign => (4 * 36..4 * 92).contains(&x) && (24..58).contains(&y),
+            Thing::Ground => true,
+        }
+    }
+
+    fn sample(&self, thing: Thing, quarters: i32, y: i32) -> i32 {
+        let (x, t) = self.stage(quarters, y);
+        let rough = noise(quarters, 4 * y, 24, 11) / 5 + noise(quarters, 4 * y, 10, 12) / 10;
+        match thing {
+            Thing::Pole => 200 + rough / 2 - wave(t, 14) / 6,
+            Thing::Ball => 90 + rough + 110 - ((x - 4 * 100).pow(2) + (4 * (t - 96)).pow(2)) / 480,
+            Thing::Box => 70 + rough + wave(x, 4 * 22) / 3,
+            Thing::Sign => 150 + rough + wave(x + 4 * t, 4 * 16) / 6,
+            Thing::Ground if t < 120 => 60 + rough + wave(x, 4 * 50) / 6 + wave(t, 40) / 8,
+            Thing::Ground => 50 + rough + (t - 120) / 2 + wave(x + 2 * t, 4 * 34) / 5,
+        }
+    }
+}
+
+/// A triangle wave, 0 to 255.
+fn wave(x: i32, period: i32) -> i32 {
+    let at = x.rem_euclid(period);
+    at.min(period - at) * 510 / period
+}
+
+/// Noise that is smooth between the points of a grid, 0 to 255.
+fn noise(x: i32, y: i32, step: i32, seed: u32) -> i32 {
+    let (column, row) = (x.div_euclid(step), y.div_euclid(step));
+    let (right, down) = (x.rem_euclid(step), y.rem_euclid(step));
+    let at = |c: i32, r: i32| (hash(c, r, seed) & 255) as i32;
+    let top = at(column, row) * (step - right) + at(column + 1, row) * right;
+    let bottom = at(column, row + 1) * (step - right) + at(column + 1, row + 1) * right;
+    (top * (step - down) + bottom * down) / (step * step)
+}
+
+fn hash(x: i32, y: i32, seed: u32) -> u32 {
+    let mut z = (x as u32).wrapping_mul(0x9e37_79b1) ^ (y as u32).wrapping_mul(0x85eb_ca77) ^ seed.wrapping_mul(0xc2b2_ae3d);
+    z = (z ^ (z >> 15)).wrapping_mul(0x2c1b_3c6d);
+    z = (z ^ (z >> 12)).wrapping_mul(0x297a_2d39);
+    z ^ (z >> 15)
+}

@@ -1,0 +1,257 @@
+//! How fast the library is, as ratios measured in one run on one machine: its calls against a program that redraws the
+//! block's rows completely and against a span renderer written for speed in Rust. All three must answer alike.
+//!
+//! It prints the tables of docs/SPEED.md. `--short` measures little and is for seeing that the answers agree.
+
+mod held;
+mod redraw;
+#[path = "../demo/scene.rs"]
+mod scene;
+mod span;
+
+use luphwezane::{Block, Pictures, Session, Settings, View};
+use redraw::Redraw;
+use scene::Scene;
+use span::Span;
+use std::hint::black_box;
+use std::time::Instant;
+
+/// How much is measured: rounds over so many blocks.
+struct Effort {
+    rounds: usize,
+    blocks: usize,
+}
+
+fn main() {
+    let effort = match std::env::args().nth(1).as_deref() {
+        None => Effort { rounds: 9, blocks: 200 },
+        Some("--short") => Effort { rounds: 1, blocks: 20 },
+        Some(_) => {
+            eprintln!("usage: speed [--short]");
+            std::process::exit(1);
+        }
+    };
+    println!("Ratios of times, medians over {} blocks and {} rounds. Below 1 the library is faster.\n", effort.blocks, effort.rounds);
+    let stage = Stage::new(1024, 768, 96);
+    let at_8 = get_and_set(&stage, &effort);
+    open(&stage, &effort);
+    widths(&effort);
+    disparities(&effort);
+    println!("GET at 8 × 8 takes {:.3} of the full redraw (target: less than 0.1)", at_8[0]);
+    println!("and {:.2} of the span renderer (target: at most 1.25).", at_8[1]);
+}
+
+/// A scene and its settings.
+struct Stage {
+    settings: Settings,
+    scene: Scene,
+}
+
+impl Stage {
+    /// The made scene, for disparities up to `largest` quarters.
+    fn new(w: usize, h: usize, largest: u16) -> Stage {
+        Stage::of(scene::made(w, h, &scene::table(largest)), largest)
+    }
+
+    fn of(scene: Scene, largest: u16) -> Stage {
+        let table = scene::table(largest);
+        let (w, h) = (scene.w as u32, scene.h as u32);
+        Stage { settings: Settings { w, h, left: table, right: table, share: 32, tolerance: 16, total: 0 }, scene }
+    }
+
+    /// The same picture several times side by side.
+    fn repeated(&self, times: usize) -> Stage {
+        let Scene { w, h, textures, reference, depths } = &self.scene;
+        let wide = |plane: &Vec<u8>| plane.chunks(*w).flat_map(|row| row.repeat(times)).collect::<Vec<u8>>();
+        let (textures, depths) = (textures.each_ref().map(wide), depths.each_ref().map(wide));
+        let scene = Scene { w: w * times, h: *h, textures, reference: wide(reference), depths };
+        Stage { settings: Settings { w: scene.w as u32, ..self.settings }, scene }
+    }
+
+    fn session(&self) -> Session {
+        let Scene { textures: [left, right], reference, depths: [left_depths, right_depths], .. } = &self.scene;
+        let pictures = Pictures { textures: [left, right], reference };
+        Session::open(&self.settings, &pictures, [left_depths, right_depths]).expect("the scene is accepted")
+    }
+
+    /// Trials at one random block, as an encoder makes them: one depth, or the block's own depths, moved by up to `most`.
+    fn trials(&self, side: usize, count: usize, most: usize, random: &mut Random) -> Trials {
+        let Scene { w, h, depths, .. } = &self.scene;
+        let view = View::BOTH[random.below(2)];
+        let (column, row) = (random.below(w / side) * side, random.below(h / side) * side);
+        let own: Vec<u8> = (0..side * side).map(|k| depths[view as usize][(row + k / side) * w + column + k % side]).collect();
+        let candidates = (0..count).map(|k| {
+            let shift = random.below(2 * most + 1) as i32 - most as i32;
+            own.iter().map(|&depth| (i32::from(if k % 2 == 0 { own[0] } else { depth }) + shift).clamp(0, 255) as u8).collect()
+        });
+        let candidates = candidates.collect();
+        Trials { view, block: Block { column: column as u32, row: row as u32, width: side as u32, height: side as u32 }, candidates }
+    }
+}
+
+/// A small generator, the same in every run.
+struct Random(u64);
+
+impl Random {
+    fn below(&mut self, n: usize) -> usize {
+        self.0 = self.0.wrapping_mul(6364136223846793005).wrapping_add(1442695040888963407);
+        (self.0 >> 33) as usize % n
+    }
+}
+
+/// Candidates for one block.
+struct Trials {
+    view: View,
+    block: Block,
+    candidates: Vec<Vec<u8>>,
+}
+
+impl Trials {
+    /// The answers of one kind of call for all candidates, and the time of a call. Only the first calls are timed, one in
+    /// `every`: short pieces are seldom interrupted.
+    fn timed(&self, every: usize, mut call: impl FnMut(usize, Block, &[u8]) -> i64) -> (f64, Vec<i64>) {
+        let mut answer = |candidate: &Vec<u8>| call(self.view as usize, self.block, candidate);
+        let (first, rest) = self.candidates.split_at(self.candidates.len().div_ceil(every));
+        let (time, mut answers) = timed(|| first.iter().map(&mut answer).collect::<Vec<i64>>());
+        answers.extend(rest.iter().map(answer));
+        (time / first.len() as f64, answers)
+    }
+}
+
+/// The seconds that a piece of work takes, and its answer.
+fn timed<T>(work: impl FnOnce() -> T) -> (f64, T) {
+    let start = Instant::now();
+    let answer = black_box(work());
+    (start.elapsed().as_secs_f64(), answer)
+}
+
+fn median(mut numbers: Vec<f64>) -> f64 {
+    numbers.sort_by(f64::total_cmp);
+    numbers[numbers.len() / 2]
+}
+
+/// The medians of the library's time by the full redraw's and by the span renderer's.
+fn ratios(times: &[[f64; 3]]) -> [f64; 2] {
+    [1, 2].map(|other| median(times.iter().map(|t| t[0] / t[other]).collect()))
+}
+
+/// GET and SET at three block sizes. Answers GET's ratios at 8 × 8.
+fn get_and_set(stage: &Stage, effort: &Effort) -> [f64; 2] {
+    println!("| 1,024 × 768 | GET / full redraw | GET / span renderer | SET / full redraw | SET / span renderer |");
+    println!("|---|---|---|---|---|");
+    let mut at_8 = [0.0; 2];
+    for (side, candidates) in [(4, 20), (8, 20), (64, 4)] {
+        let random = &mut Random(1);
+        let blocks: Vec<Trials> = (0..effort.blocks).map(|_| stage.trials(side, candidates, 12, random)).collect();
+        let (get, set) = (get(stage, &blocks, effort.rounds), set(stage, &blocks, effort.rounds));
+        println!("| {side} × {side} | {:.4} | {:.2} | {:.4} | {:.2} |", get[0], get[1], set[0], set[1]);
+        if side == 8 {
+            at_8 = get;
+        }
+    }
+    println!();
+    at_8
+}
+
+fn get(stage: &Stage, blocks: &[Trials], rounds: usize) -> [f64; 2] {
+    let (session, span) = (stage.session(), Span::open(&stage.settings, &stage.scene));
+    let mut redraw = Redraw::open(&stage.settings, &stage.scene);
+    let mut times = Vec::new();
+    for trials in (0..rounds).flat_map(|_| blocks) {
+        let (library, a) = trials.timed(1, |_, block, candidate| session.get(trials.view, block, candidate).expect("GET accepts it"));
+        let (rows, b) = trials.timed(10, |view, block, candidate| redraw.get(view, block, candidate));
+        let (spans, c) = trials.timed(1, |view, block, candidate| span.get(view, block, candidate));
+        assert!(a == b && a == c, "the three answer GET alike");
+        times.push([library, rows, spans]);
+    }
+    ratios(&times)
+}
+
+fn set(stage: &Stage, blocks: &[Trials], rounds: usize) -> [f64; 2] {
+    let (mut session, mut span) = (stage.session(), Span::open(&stage.settings, &stage.scene));
+    let mut redraw = Redraw::open(&stage.settings, &stage.scene);
+    let mut times = Vec::new();
+    for trials in (0..rounds).flat_map(|_| blocks) {
+        let (library, a) = trials.timed(1, |_, block, candidate| session.set(trials.view, block, candidate).expect("SET accepts it"));
+        let (rows, b) = trials.timed(10, |view, block, candidate| redraw.set(view, block, candidate));
+        let (spans, c) = trials.timed(1, |view, block, candidate| span.set(view, block, candidate));
+        assert!(a == b && a == c, "the three answer SET alike");
+        times.push([library, rows, spans]);
+    }
+    let (planes, total) = (session.planes(), session.total());
+    assert!(span.held.is_same(&planes, total) && redraw.held.is_same(&planes, total), "the three end alike");
+    ratios(&times)
+}
+
+fn open(stage: &Stage, effort: &Effort) {
+    let mut times = Vec::new();
+    for _ in 0..effort.rounds {
+        let (library, session) = timed(|| stage.session());
+        let (rows, redraw) = timed(|| Redraw::open(&stage.settings, &stage.scene));
+        let (spans, span) = timed(|| Span::open(&stage.settings, &stage.scene));
+        let (planes, total) = (session.planes(), session.total());
+        assert!(span.held.is_same(&planes, total) && redraw.held.is_same(&planes, total), "the three open alike");
+        times.push([library, rows, spans]);
+    }
+    let ratios = ratios(&times);
+    println!("| 1,024 × 768 | OPEN / full drawing | OPEN / span renderer |");
+    println!("|---|---|---|");
+    println!("| whole picture | {:.2} | {:.2} |\n", ratios[0], ratios[1]);
+}
+
+/// GET of the same 8 × 8 blocks in pictures of growing width, whose columns repeat those of the narrowest.
+fn widths(effort: &Effort) {
+    let (narrow, random) = (Stage::new(256, 64, 96), &mut Random(1));
+    let mut blocks: Vec<Trials> = (0..4 * effort.blocks).map(|_| narrow.trials(8, 20, 12, random)).collect();
+    blocks.retain(|trials| (64..192).contains(&trials.block.column));
+    let sessions = [1, 2, 4, 8, 16].map(|times| narrow.repeated(times).session());
+    let growth = growth(&sessions, &blocks, effort.rounds, 0);
+    println!("| columns | GET at 8 × 8 / GET at 256 columns |");
+    println!("|---|---|");
+    for (session, (ratio, answers)) in sessions.iter().zip(&growth) {
+        assert!(*answers == growth[0].1, "the answers do not depend on the width");
+        println!("| {} | {ratio:.2} |", session.settings().w);
+    }
+    println!();
+}
+
+/// GET of the same 8 × 8 blocks of the same pictures with growing disparities and candidates far from the depths that are
+/// there: the span grows with the shift.
+fn disparities(effort: &Effort) {
+    let largest = [0, 16, 64, 256, 1023];
+    let stages = largest.map(|largest| Stage::of(scene::made(1024, 768, &scene::table(96)), largest));
+    let random = &mut Random(1);
+    let blocks: Vec<Trials> = (0..effort.blocks).map(|_| stages[0].trials(8, 20, 128, random)).collect();
+    let growth = growth(&stages.each_ref().map(Stage::session), &blocks, effort.rounds, 2);
+    println!("| largest disparity, quarters | GET at 8 × 8 / GET at 64 | positions drawn a row, mean |");
+    println!("|---|---|---|");
+    for (k, (ratio, answers)) in growth.iter().enumerate() {
+        let span = Span::open(&stages[k].settings, &stages[k].scene);
+        let same: Vec<i64> = blocks.iter().flat_map(|trials| trials.timed(1, |view, block, c| span.get(view, block, c)).1).collect();
+        assert!(*answers == same, "both answer GET alike");
+        let drawn = |trials: &Trials| trials.timed(1, |view, block, c| span.positions(view, block, c)).1.iter().sum::<i64>();
+        let mean = blocks.iter().map(drawn).sum::<i64>() as f64 / (8 * same.len()) as f64;
+        println!("| {} | {ratio:.2} | {mean:.1} |", largest[k]);
+    }
+    println!();
+}
+
+/// For each session the median ratio of its time to that of the session `base`, and its answers.
+fn growth(sessions: &[Session], blocks: &[Trials], rounds: usize, base: usize) -> Vec<(f64, Vec<i64>)> {
+    let mut ratios = vec![Vec::new(); sessions.len()];
+    let mut answers = vec![Vec::new(); sessions.len()];
+    for round in 0..rounds {
+        for trials in blocks {
+            let get = |session: &Session| trials.timed(1, |_, block, c| session.get(trials.view, block, c).expect("GET accepts it"));
+            let timed: Vec<(f64, Vec<i64>)> = sessions.iter().map(get).collect();
+            let unit = timed[base].0;
+            for (k, (time, changes)) in timed.into_iter().enumerate() {
+                ratios[k].push(time / unit);
+                if round == 0 {
+                    answers[k].extend(changes);
+                }
+            }
+        }
+    }
+    ratios.into_iter().map(median).zip(answers).collect()
+}

@@ -1,0 +1,221 @@
+//! A span renderer written for speed: the library's own way of working, by hand. A trial goes over the span of each of the
+//! block's rows once, from the right, and adds up old and new errors without storing a pixel.
+
+use crate::held::{combine, position, seen, square, Held, Pair, Pixel};
+use crate::scene::Scene;
+use luphwezane::{Block, Settings};
+
+pub struct Span {
+    pub held: Held,
+    /// A row of a SET, drawn before it is written.
+    drawn: Vec<Drawn>,
+}
+
+/// Where one row of an edit lies: the row, the block's stored columns, and its columns as the view reads them.
+#[derive(Clone, Copy)]
+struct Edit<'a> {
+    y: usize,
+    column: usize,
+    part: &'a [u8],
+    first: usize,
+    end: usize,
+}
+
+/// What is drawn at a position, and where: entry of the row, the view's pixel, the combined sample.
+struct Drawn {
+    at: usize,
+    own: Pixel,
+    sample: u8,
+}
+
+impl Span {
+    pub fn open(settings: &Settings, scene: &Scene) -> Span {
+        let mut span = Span { held: Held::new(settings, scene), drawn: Vec::with_capacity(scene.w) };
+        let (w, h) = (scene.w, scene.h);
+        for y in 0..h {
+            span.draw_row::<false>(y);
+            span.draw_row::<true>(y);
+            let base = y * w;
+            let mut error = 0;
+            for x in 0..w {
+                let sample = combine(span.held.share, span.held.tolerance, span.shown(0, y, x), span.shown(1, y, x));
+                span.held.combined[base + x] = sample;
+                error += square(sample, span.held.reference[base + x]);
+            }
+            span.held.total += u64::from(error);
+        }
+        span
+    }
+
+    pub fn get(&self, view: usize, block: Block, candidate: &[u8]) -> i64 {
+        let mut change = 0;
+        for (k, part) in candidate.chunks_exact(block.width as usize).enumerate() {
+            change += match view {
+                0 => self.row_change::<false>(self.edit::<false>(block, k, part), |_| ()),
+                _ => self.row_change::<true>(self.edit::<true>(block, k, part), |_| ()),
+            };
+        }
+        change
+    }
+
+    /// How many positions a trial draws.
+    pub fn positions(&self, view: usize, block: Block, candidate: &[u8]) -> i64 {
+        let mut count = 0;
+        for (k, part) in candidate.chunks_exact(block.width as usize).enumerate() {
+            match view {
+                0 => self.row_change::<false>(self.edit::<false>(block, k, part), |_| count += 1),
+                _ => self.row_change::<true>(self.edit::<true>(block, k, part), |_| count += 1),
+            };
+        }
+        count
+    }
+
+    pub fn set(&mut self, view: usize, block: Block, candidate: &[u8]) -> i64 {
+        let mut change = 0;
+        for (k, part) in candidate.chunks_exact(block.width as usize).enumerate() {
+            change += match view {
+                0 => self.set_row::<false>(block, k, part),
+                _ => self.set_row::<true>(block, k, part),
+            };
+        }
+        self.held.total = self.held.total.wrapping_add_signed(change);
+        change
+    }
+
+    fn edit<'a, const RIGHT: bool>(&self, block: Block, k: usize, part: &'a [u8]) -> Edit<'a> {
+        let (column, width) = (block.column as usize, block.width as usize);
+        let first = if RIGHT { self.held.w - column - width } else { column };
+        Edit { y: block.row as usize + k, column, part, first, end: first + width }
+    }
+
+    /// The view's pixel at entry x of row y, as it is held.
+    #[inline(always)]
+    fn shown(&self, view: usize, y: usize, x: usize) -> Pixel {
+        let (held, at) = (&self.held, y * self.held.w + x);
+        let hole = held.marks[view][y * held.mark_bytes() + x / 8] >> (x % 8) & 1 == 1;
+        Pixel { sample: held.samples[view][at], hole, front: held.fronts[view][at] }
+    }
+
+    /// The change of a row's error; `keep` is told each position that is drawn.
+    #[inline(always)]
+    fn row_change<const RIGHT: bool>(&self, edit: Edit, mut keep: impl FnMut(Drawn)) -> i64 {
+        let (held, view, other) = (&self.held, usize::from(RIGHT), usize::from(!RIGHT));
+        let (w, bytes) = (held.w, held.mark_bytes());
+        let (base, packed) = (edit.y * w, edit.y * bytes);
+        let (table, texture, depths) = (&held.tables[view], &held.textures[view][base..base + w], &held.depths[view][base..base + w]);
+        let (samples, fronts) = (&held.samples[other][base..base + w], &held.fronts[other][base..base + w]);
+        let (marks, combined) = (&held.marks[other][packed..packed + bytes], &held.combined[base..base + w]);
+        let (reference, limits) = (&held.reference[base..base + w], &held.limits[view][base..base + w]);
+        let place = |c: usize, depth: u8| 4 * c as i32 - i32::from(table[usize::from(depth)]);
+
+        let mut low = i32::MAX;
+        if edit.first > 0 {
+            low = place(edit.first - 1, depths[seen::<RIGHT>(w, edit.first - 1)]);
+        }
+        for c in edit.first..edit.end {
+            let at = seen::<RIGHT>(w, c);
+            low = low.min(place(c, depths[at])).min(place(c, edit.part[at - edit.column]));
+        }
+        let start = position(low);
+        let (mut top, mut next) = (w, None);
+        if edit.end < w {
+            let at = seen::<RIGHT>(w, edit.end);
+            top = position(i32::from(limits[at]));
+            next = Some((texture[at], depths[at], place(edit.end, depths[at])));
+        }
+
+        let (mut old, mut new) = (0, 0);
+        let mut c = edit.end;
+        while c > 0 && top > start {
+            c -= 1;
+            let at = seen::<RIGHT>(w, c);
+            let depth = if c >= edit.first { edit.part[at - edit.column] } else { depths[at] };
+            let (sample, here) = (texture[at], place(c, depth));
+            let from = position(here).max(start);
+            if from < top {
+                let (far_sample, far_depth, far_place) = next.unwrap_or((sample, depth, 0));
+                let pair = Pair { samples: [sample, far_sample], depths: [depth, far_depth], gap: far_place - here, last: next.is_none() };
+                for p in from..top {
+                    let at = seen::<RIGHT>(w, p);
+                    let own = pair.pixel(4 * p as i32 - here);
+                    let far = Pixel { sample: samples[at], hole: marks[at / 8] >> (at % 8) & 1 == 1, front: fronts[at] };
+                    let (left, right) = if RIGHT { (far, own) } else { (own, far) };
+                    let sample = combine(held.share, held.tolerance, left, right);
+                    old += square(combined[at], reference[at]);
+                    new += square(sample, reference[at]);
+                    keep(Drawn { at, own, sample });
+                }
+                top = from;
+            }
+            next = Some((sample, depth, here));
+        }
+        i64::from(new) - i64::from(old)
+    }
+
+    fn set_row<const RIGHT: bool>(&mut self, block: Block, k: usize, part: &[u8]) -> i64 {
+        let edit = self.edit::<RIGHT>(block, k, part);
+        let mut drawn = std::mem::take(&mut self.drawn);
+        let change = self.row_change::<RIGHT>(edit, |position| drawn.push(position));
+        let (view, base, packed) = (usize::from(RIGHT), edit.y * self.held.w, edit.y * self.held.mark_bytes());
+        self.held.depths[view][base + edit.column..base + edit.column + part.len()].copy_from_slice(part);
+        for Drawn { at, own, sample } in drawn.drain(..) {
+            self.held.samples[view][base + at] = own.sample;
+            self.held.fronts[view][base + at] = own.front;
+            self.held.combined[base + at] = sample;
+            put_mark(&mut self.held.marks[view][packed + at / 8], at % 8, own.hole);
+        }
+        self.drawn = drawn;
+        self.set_limits::<RIGHT>(edit.y, edit.first, edit.end);
+        change
+    }
+
+    /// Limits of the columns below `end`; left of `first` they stand as soon as one is as it was.
+    fn set_limits<const RIGHT: bool>(&mut self, y: usize, first: usize, end: usize) {
+        let (view, w, base) = (usize::from(RIGHT), self.held.w, y * self.held.w);
+        let mut limit = if end < w { i32::from(self.held.limits[view][base + seen::<RIGHT>(w, end)]) } else { i32::MAX };
+        for c in (0..end).rev() {
+            let at = base + seen::<RIGHT>(w, c);
+            limit = limit.min(4 * c as i32 - i32::from(self.held.tables[view][usize::from(self.held.depths[view][at])]));
+            if c < first && i32::from(self.held.limits[view][at]) == limit {
+                return;
+            }
+            self.held.limits[view][at] = limit as i16;
+        }
+    }
+
+    /// Draws a whole row of a view into its planes.
+    fn draw_row<const RIGHT: bool>(&mut self, y: usize) {
+        let held = &mut self.held;
+        let (view, w, bytes) = (usize::from(RIGHT), held.w, held.mark_bytes());
+        let (row, packed) = (y * w..(y + 1) * w, y * bytes..(y + 1) * bytes);
+        let (texture, depths) = (&held.textures[view][row.clone()], &held.depths[view][row.clone()]);
+        let (samples, fronts) = (&mut held.samples[view][row.clone()], &mut held.fronts[view][row.clone()]);
+        let (limits, marks) = (&mut held.limits[view][row], &mut held.marks[view][packed]);
+        let (mut top, mut limit, mut next) = (w, i32::MAX, None);
+        for c in (0..w).rev() {
+            let at = seen::<RIGHT>(w, c);
+            let (sample, depth) = (texture[at], depths[at]);
+            let place = 4 * c as i32 - i32::from(held.tables[view][usize::from(depth)]);
+            limit = limit.min(place);
+            limits[at] = limit as i16;
+            let from = position(place);
+            if from < top {
+                let (far_sample, far_depth, far_place) = next.unwrap_or((sample, depth, 0));
+                let pair = Pair { samples: [sample, far_sample], depths: [depth, far_depth], gap: far_place - place, last: next.is_none() };
+                for p in from..top {
+                    let (at, pixel) = (seen::<RIGHT>(w, p), pair.pixel(4 * p as i32 - place));
+                    samples[at] = pixel.sample;
+                    fronts[at] = pixel.front;
+                    put_mark(&mut marks[at / 8], at % 8, pixel.hole);
+                }
+                top = from;
+            }
+            next = Some((sample, depth, place));
+        }
+    }
+}
+
+#[inline(always)]
+fn put_mark(byte: &mut u8, bit: usize, hole: bool) {
+    *byte = *byte & !(1 << bit) | u8::from(hole) << bit;
+}

@@ -1,0 +1,203 @@
+//! The symbols of the static library, and safe functions over them. All unsafe code of the crate is here.
+//!
+//! The library takes a slice as a pointer and then a length, and `Settings` and `Block` by value. It answers the
+//! refusal's number, 0 where the call is accepted. It is proved for every length and every content, so that what is
+//! left to show for each call below is that the pointers are of slices that live through the call and that a slice
+//! lent for writing overlaps no other. Both follow from the borrows.
+
+use crate::{Block, Pictures, Planes, PlanesMut, Refusal, Report, Settings};
+
+#[rustfmt::skip]
+extern "C" {
+    fn luph_raw_render(
+        settings: Settings, view: u32,
+        texture: *const u8, texture_len: usize, depths: *const u8, depths_len: usize,
+        samples: *mut u8, samples_len: usize, marks: *mut u8, marks_len: usize, fronts: *mut u8, fronts_len: usize,
+    ) -> u32;
+    fn luph_raw_open(
+        settings: Settings,
+        left_texture: *const u8, left_texture_len: usize, right_texture: *const u8, right_texture_len: usize,
+        reference: *const u8, reference_len: usize,
+        left_depths: *const u8, left_depths_len: usize, right_depths: *const u8, right_depths_len: usize,
+        left_samples: *mut u8, left_samples_len: usize, left_fronts: *mut u8, left_fronts_len: usize,
+        left_limits: *mut i16, left_limits_len: usize, left_marks: *mut u8, left_marks_len: usize,
+        right_samples: *mut u8, right_samples_len: usize, right_fronts: *mut u8, right_fronts_len: usize,
+        right_limits: *mut i16, right_limits_len: usize, right_marks: *mut u8, right_marks_len: usize,
+        combined: *mut u8, combined_len: usize,
+        total: *mut u64,
+    ) -> u32;
+    fn luph_raw_get(
+        settings: Settings,
+        left_texture: *const u8, left_texture_len: usize, right_texture: *const u8, right_texture_len: usize,
+        reference: *const u8, reference_len: usize,
+        left_depths: *const u8, left_depths_len: usize, right_depths: *const u8, right_depths_len: usize,
+        left_samples: *const u8, left_samples_len: usize, left_fronts: *const u8, left_fronts_len: usize,
+        left_limits: *const i16, left_limits_len: usize, left_marks: *const u8, left_marks_len: usize,
+        right_samples: *const u8, right_samples_len: usize, right_fronts: *const u8, right_fronts_len: usize,
+        right_limits: *const i16, right_limits_len: usize, right_marks: *const u8, right_marks_len: usize,
+        combined: *const u8, combined_len: usize,
+        view: u32, block: Block, candidate: *const u8, candidate_len: usize,
+        change: *mut i64,
+    ) -> u32;
+    fn luph_raw_set(
+        settings: Settings,
+        left_texture: *const u8, left_texture_len: usize, right_texture: *const u8, right_texture_len: usize,
+        reference: *const u8, reference_len: usize,
+        left_depths: *mut u8, left_depths_len: usize, right_depths: *mut u8, right_depths_len: usize,
+        left_samples: *mut u8, left_samples_len: usize, left_fronts: *mut u8, left_fronts_len: usize,
+        left_limits: *mut i16, left_limits_len: usize, left_marks: *mut u8, left_marks_len: usize,
+        right_samples: *mut u8, right_samples_len: usize, right_fronts: *mut u8, right_fronts_len: usize,
+        right_limits: *mut i16, right_limits_len: usize, right_marks: *mut u8, right_marks_len: usize,
+        combined: *mut u8, combined_len: usize,
+        view: u32, block: Block, candidate: *const u8, candidate_len: usize,
+        change: *mut i64, total: *mut u64,
+    ) -> u32;
+    fn luph_raw_check(
+        settings: Settings,
+        left_texture: *const u8, left_texture_len: usize, right_texture: *const u8, right_texture_len: usize,
+        reference: *const u8, reference_len: usize,
+        left_depths: *const u8, left_depths_len: usize, right_depths: *const u8, right_depths_len: usize,
+        left_samples: *const u8, left_samples_len: usize, left_fronts: *const u8, left_fronts_len: usize,
+        left_limits: *const i16, left_limits_len: usize, left_marks: *const u8, left_marks_len: usize,
+        right_samples: *const u8, right_samples_len: usize, right_fronts: *const u8, right_fronts_len: usize,
+        right_limits: *const i16, right_limits_len: usize, right_marks: *const u8, right_marks_len: usize,
+        combined: *const u8, combined_len: usize,
+        kind: *mut u32, row: *mut u32, column: *mut u32,
+    ) -> u32;
+    fn luph_raw_holes(
+        settings: Settings, view: u32,
+        left_marks: *const u8, left_marks_len: usize, right_marks: *const u8, right_marks_len: usize,
+        count: *mut u64,
+    ) -> u32;
+}
+
+fn accepted<T>(number: u32, answer: T) -> Result<T, Refusal> {
+    match number {
+        0 => Ok(answer),
+        _ => Err(Refusal::from_number(number).expect("the library answers 0 to 8")),
+    }
+}
+
+/// RENDER: draws one row of one view, with that view's table, into samples, packed marks and front depths.
+///
+/// Texture, depths, samples and fronts have `settings.w` entries, marks (w + 7) / 8 bytes; h, share, tolerance and
+/// total are not looked at. View 0 is left, view 1 right. Refuses 1 (by w alone), 2, 3, then 6.
+#[rustfmt::skip]
+pub fn render(
+    settings: &Settings, view: u32, texture: &[u8], depths: &[u8], samples: &mut [u8], marks: &mut [u8], fronts: &mut [u8],
+) -> Result<(), Refusal> {
+    // SAFETY: see above.
+    let number = unsafe {
+        luph_raw_render(
+            *settings, view, texture.as_ptr(), texture.len(), depths.as_ptr(), depths.len(),
+            samples.as_mut_ptr(), samples.len(), marks.as_mut_ptr(), marks.len(), fronts.as_mut_ptr(), fronts.len(),
+        )
+    };
+    accepted(number, ())
+}
+
+/// OPEN: draws both views from pictures and depths into the held planes and writes the total into the settings.
+///
+/// The total passed in is ignored; the depths are only read. Refuses 1, 2, 3, 4.
+#[rustfmt::skip]
+pub fn open(settings: &mut Settings, pictures: &Pictures, planes: &mut PlanesMut) -> Result<(), Refusal> {
+    let Pictures { textures: [lt, rt], reference } = pictures;
+    let PlanesMut { depths: [ld, rd], samples: [ls, rs], fronts: [lf, rf], limits: [ll, rl], marks: [lm, rm], combined } = planes;
+    let mut total = 0;
+    // SAFETY: see above.
+    let number = unsafe {
+        luph_raw_open(
+            *settings, lt.as_ptr(), lt.len(), rt.as_ptr(), rt.len(), reference.as_ptr(), reference.len(),
+            ld.as_ptr(), ld.len(), rd.as_ptr(), rd.len(),
+            ls.as_mut_ptr(), ls.len(), lf.as_mut_ptr(), lf.len(), ll.as_mut_ptr(), ll.len(), lm.as_mut_ptr(), lm.len(),
+            rs.as_mut_ptr(), rs.len(), rf.as_mut_ptr(), rf.len(), rl.as_mut_ptr(), rl.len(), rm.as_mut_ptr(), rm.len(),
+            combined.as_mut_ptr(), combined.len(), &mut total,
+        )
+    };
+    settings.total = accepted(number, total)?;
+    Ok(())
+}
+
+/// GET: how the total would change if the block of the view's depths were the candidate. Nothing is written.
+///
+/// The candidate has width × height depths in row order. View 0 is left, view 1 right. Refuses 1, 2, 3, 4, 6, 5, 7, then 8.
+#[rustfmt::skip]
+pub fn get(
+    settings: &Settings, pictures: &Pictures, planes: &Planes, view: u32, block: Block, candidate: &[u8],
+) -> Result<i64, Refusal> {
+    let Pictures { textures: [lt, rt], reference } = pictures;
+    let Planes { depths: [ld, rd], samples: [ls, rs], fronts: [lf, rf], limits: [ll, rl], marks: [lm, rm], combined } = planes;
+    let mut change = 0;
+    // SAFETY: see above.
+    let number = unsafe {
+        luph_raw_get(
+            *settings, lt.as_ptr(), lt.len(), rt.as_ptr(), rt.len(), reference.as_ptr(), reference.len(),
+            ld.as_ptr(), ld.len(), rd.as_ptr(), rd.len(),
+            ls.as_ptr(), ls.len(), lf.as_ptr(), lf.len(), ll.as_ptr(), ll.len(), lm.as_ptr(), lm.len(),
+            rs.as_ptr(), rs.len(), rf.as_ptr(), rf.len(), rl.as_ptr(), rl.len(), rm.as_ptr(), rm.len(),
+            combined.as_ptr(), combined.len(), view, block, candidate.as_ptr(), candidate.len(), &mut change,
+        )
+    };
+    accepted(number, change)
+}
+
+/// SET: writes the candidate into the block, brings the held planes up to date, answers the change, and writes the new
+/// total into the settings.
+///
+/// Refuses as [`get`] does.
+#[rustfmt::skip]
+pub fn set(
+    settings: &mut Settings, pictures: &Pictures, planes: &mut PlanesMut, view: u32, block: Block, candidate: &[u8],
+) -> Result<i64, Refusal> {
+    let Pictures { textures: [lt, rt], reference } = pictures;
+    let PlanesMut { depths: [ld, rd], samples: [ls, rs], fronts: [lf, rf], limits: [ll, rl], marks: [lm, rm], combined } = planes;
+    let (mut change, mut total) = (0, 0);
+    // SAFETY: see above.
+    let number = unsafe {
+        luph_raw_set(
+            *settings, lt.as_ptr(), lt.len(), rt.as_ptr(), rt.len(), reference.as_ptr(), reference.len(),
+            ld.as_mut_ptr(), ld.len(), rd.as_mut_ptr(), rd.len(),
+            ls.as_mut_ptr(), ls.len(), lf.as_mut_ptr(), lf.len(), ll.as_mut_ptr(), ll.len(), lm.as_mut_ptr(), lm.len(),
+            rs.as_mut_ptr(), rs.len(), rf.as_mut_ptr(), rf.len(), rl.as_mut_ptr(), rl.len(), rm.as_mut_ptr(), rm.len(),
+            combined.as_mut_ptr(), combined.len(), view, block, candidate.as_ptr(), candidate.len(), &mut change, &mut total,
+        )
+    };
+    settings.total = accepted(number, total)?;
+    Ok(change)
+}
+
+/// CHECK: compares every held entry with a fresh drawing of the depths. Nothing is written. Refuses 1, 2, 3, 4.
+#[rustfmt::skip]
+pub fn check(settings: &Settings, pictures: &Pictures, planes: &Planes) -> Result<Report, Refusal> {
+    let Pictures { textures: [lt, rt], reference } = pictures;
+    let Planes { depths: [ld, rd], samples: [ls, rs], fronts: [lf, rf], limits: [ll, rl], marks: [lm, rm], combined } = planes;
+    let (mut kind, mut row, mut column) = (0, 0, 0);
+    // SAFETY: see above.
+    let number = unsafe {
+        luph_raw_check(
+            *settings, lt.as_ptr(), lt.len(), rt.as_ptr(), rt.len(), reference.as_ptr(), reference.len(),
+            ld.as_ptr(), ld.len(), rd.as_ptr(), rd.len(),
+            ls.as_ptr(), ls.len(), lf.as_ptr(), lf.len(), ll.as_ptr(), ll.len(), lm.as_ptr(), lm.len(),
+            rs.as_ptr(), rs.len(), rf.as_ptr(), rf.len(), rl.as_ptr(), rl.len(), rm.as_ptr(), rm.len(),
+            combined.as_ptr(), combined.len(), &mut kind, &mut row, &mut column,
+        )
+    };
+    accepted(number, ())?;
+    Ok(match kind {
+        0 => Report::Sound,
+        1 => Report::Difference { row, column },
+        2 => Report::Total,
+        _ => unreachable!("the library reports kinds 0 to 2"),
+    })
+}
+
+/// HOLES: counts the chosen view's marks of 1 at columns below w. `marks` are the left and the right view's.
+///
+/// View 0 is left, view 1 right. Refuses 1, 2, then 6.
+pub fn holes(settings: &Settings, view: u32, marks: [&[u8]; 2]) -> Result<u64, Refusal> {
+    let [left, right] = marks;
+    let mut count = 0;
+    // SAFETY: see above.
+    let number = unsafe { luph_raw_holes(*settings, view, left.as_ptr(), left.len(), right.as_ptr(), right.len(), &mut count) };
+    accepted(number, count)
+}

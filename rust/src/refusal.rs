@@ -1,0 +1,62 @@
+//! Why a call is refused.
+
+use std::error::Error;
+use std::fmt;
+
+/// Why a call is refused. A refused call leaves settings and planes as they were.
+///
+/// Each call tests its conditions in a fixed order, and the first that applies is answered.
+#[derive(Clone, Copy, Debug, PartialEq, Eq, Hash)]
+#[non_exhaustive]
+pub enum Refusal {
+    /// 1: w or h outside 1 to 4,096.
+    Size = 1,
+    /// 2: a plane without its exact length.
+    Plane = 2,
+    /// 3: an entry of either table above 1,023.
+    Table = 3,
+    /// 4: share above 64.
+    Share = 4,
+    /// 5: a block of zero width or height, or reaching past an edge.
+    Bounds = 5,
+    /// 6: a view neither 0 nor 1.
+    View = 6,
+    /// 7: a candidate whose length is not width × height.
+    Candidate = 7,
+    /// 8: total plus change below 0 or above 65,025 × w × h. It never occurs in a [`Session`](crate::Session).
+    Total = 8,
+}
+
+impl Refusal {
+    /// Every refusal, in the order of its number.
+    pub const ALL: [Refusal; 8] =
+        [Refusal::Size, Refusal::Plane, Refusal::Table, Refusal::Share, Refusal::Bounds, Refusal::View, Refusal::Candidate, Refusal::Total];
+
+    /// The refusal's number, 1 to 8.
+    pub fn number(self) -> u32 {
+        self as u32
+    }
+
+    /// The refusal with this number, if there is one.
+    pub fn from_number(number: u32) -> Option<Refusal> {
+        Refusal::ALL.into_iter().find(|refusal| refusal.number() == number)
+    }
+}
+
+impl fmt::Display for Refusal {
+    fn fmt(&self, f: &mut fmt::Formatter<'_>) -> fmt::Result {
+        let why = match self {
+            Refusal::Size => "w or h is outside 1 to 4,096",
+            Refusal::Plane => "a plane does not have its exact length",
+            Refusal::Table => "a disparity is above 1,023",
+            Refusal::Share => "the share is above 64",
+            Refusal::Bounds => "the block is empty or reaches past an edge",
+            Refusal::View => "the view is neither 0 nor 1",
+            Refusal::Candidate => "the candidate does not have width × height depths",
+            Refusal::Total => "the total would leave its range",
+        };
+        write!(f, "refused ({}): {why}", self.number())
+    }
+}
+
+impl Error for Refusal {}

@@ -1,0 +1,39 @@
+//! One drawn row.
+
+use crate::{lent, Refusal, Settings, View};
+
+/// One drawn row of one view.
+#[derive(Clone, Debug, PartialEq, Eq)]
+pub struct Row {
+    /// The drawn samples.
+    pub samples: Vec<u8>,
+    /// The hole marks, packed: column x in bit x % 8 of byte x / 8, spare bits zero.
+    pub marks: Vec<u8>,
+    /// The depth that is seen at each position.
+    pub fronts: Vec<u8>,
+}
+
+/// Draws one row of one view with that view's table.
+///
+/// Texture and depths have `settings.w` entries; h, share, tolerance and total are not looked at.
+///
+/// ```
+/// use luphwezane::{render, Settings, View};
+///
+/// let table = std::array::from_fn(|d| d as u16);
+/// let settings = Settings { w: 4, h: 1, left: table, right: table, share: 0, tolerance: 0, total: 0 };
+/// let row = render(&settings, View::Left, &[10, 20, 30, 40], &[0, 0, 5, 0])?;
+/// assert_eq!(row.samples, [10, 30, 40, 40]);
+/// assert_eq!(row.marks, [0b0100]);
+/// assert_eq!(row.fronts, [0, 5, 0, 0]);
+/// # Ok::<(), luphwezane::Refusal>(())
+/// ```
+///
+/// # Errors
+/// Refuses [`Size`](Refusal::Size) (by w alone), [`Plane`](Refusal::Plane) and [`Table`](Refusal::Table), in this order.
+pub fn render(settings: &Settings, view: View, texture: &[u8], depths: &[u8]) -> Result<Row, Refusal> {
+    let w = if settings.w <= 4096 { settings.w as usize } else { 0 };
+    let mut row = Row { samples: vec![0; w], marks: vec![0; w.div_ceil(8)], fronts: vec![0; w] };
+    lent::render(settings, view as u32, texture, depths, &mut row.samples, &mut row.marks, &mut row.fronts)?;
+    Ok(row)
+}

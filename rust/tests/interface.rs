@@ -1,0 +1,84 @@
+//! What a caller of the Rust crate sees besides the answers: refusals as errors, and a session's planes.
+
+use luphwezane::{Block, Pictures, Refusal, Report, Session, Settings, View};
+use std::error::Error;
+
+#[test]
+fn refusals_have_numbers_and_words() {
+    let words = [
+        "refused (1): w or h is outside 1 to 4,096",
+        "refused (2): a plane does not have its exact length",
+        "refused (3): a disparity is above 1,023",
+        "refused (4): the share is above 64",
+        "refused (5): the block is empty or reaches past an edge",
+        "refused (6): the view is neither 0 nor 1",
+        "refused (7): the candidate does not have width × height depths",
+        "refused (8): the total would leave its range",
+    ];
+    for (number, words) in (1..).zip(words) {
+        let refusal = Refusal::from_number(number).expect("a refusal's number");
+        assert_eq!(refusal.number(), number);
+        assert_eq!(refusal.to_string(), words);
+        let error: Box<dyn Error + Send + Sync> = refusal.into();
+        assert_eq!(error.to_string(), words);
+    }
+    assert_eq!(Refusal::from_number(0), None);
+    assert_eq!(Refusal::from_number(9), None);
+}
+
+fn session() -> Session {
+    let table = std::array::from_fn(|d| d as u16);
+    let settings = Settings { w: 9, h: 2, left: table, right: table, share: 32, tolerance: 0, total: 0 };
+    let texture: Vec<u8> = (0..18).map(|x| 10 * x).collect();
+    let pictures = Pictures { textures: [&texture, &texture], reference: &texture };
+    Session::open(&settings, &pictures, [&[0; 18], &[0; 18]]).expect("OPEN accepts it")
+}
+
+#[test]
+fn a_session_refuses_5_and_7_and_stays() {
+    let mut session = session();
+    let block = |column, row, width, height| Block { column, row, width, height };
+    for wrong in [block(8, 0, 2, 1), block(0, 1, 1, 2), block(0, 0, 0, 1), block(0, 0, 1, 0), block(u32::MAX, 0, 1, 1)] {
+        assert_eq!(session.get(View::Left, wrong, &[0, 0]), Err(Refusal::Bounds));
+        assert_eq!(session.set(View::Right, wrong, &[0, 0]), Err(Refusal::Bounds));
+    }
+    assert_eq!(session.get(View::Left, block(0, 0, 2, 1), &[0]), Err(Refusal::Candidate));
+    assert_eq!(session.set(View::Left, block(0, 0, 2, 1), &[]), Err(Refusal::Candidate));
+    assert_eq!((session.total(), session.check()), (0, Report::Sound));
+}
+
+#[test]
+fn every_plane_can_be_read() {
+    let mut session = session();
+    session.set(View::Left, Block { column: 8, row: 1, width: 1, height: 1 }, &[9]).expect("SET accepts it");
+    let planes = session.planes();
+    assert_eq!(planes.depths[0][17], 9);
+    assert_eq!(planes.depths[1], [0; 18]);
+    assert_eq!(planes.fronts[0][16], 9);
+    assert_eq!(planes.limits[0][17], 23);
+    assert_eq!(planes.limits[1][9], 32);
+    assert_eq!(planes.marks[0], [0, 0, 128, 1]);
+    assert_eq!(planes.samples[0][17], 170);
+    assert_eq!((planes.combined.len(), session.pictures().reference.len()), (18, 18));
+    assert!(session.is_hole(View::Left, 7, 1) && session.is_hole(View::Left, 8, 1));
+    assert!(!session.is_hole(View::Left, 6, 1) && !session.is_hole(View::Left, 8, 0) && !session.is_hole(View::Right, 8, 1));
+    assert_eq!((session.holes(View::Left), session.holes(View::Right)), (2, 0));
+    assert_eq!(session.settings().total, session.total());
+}
+
+#[test]
+#[should_panic(expected = "column 9, row 0 is outside 9 × 2")]
+fn a_hole_outside_the_picture_is_a_mistake() {
+    session().is_hole(View::Left, 9, 0);
+}
+
+#[test]
+fn sessions_can_be_copied_and_sent() {
+    let mut session = session();
+    let copy = session.clone();
+    session.set(View::Right, Block { column: 3, row: 0, width: 2, height: 2 }, &[40; 4]).expect("SET accepts it");
+    let check = std::thread::spawn(move || copy.check());
+    assert_eq!(check.join().expect("the thread ends"), Report::Sound);
+    assert_eq!(session.check(), Report::Sound);
+    assert!(format!("{session:?}").starts_with("Session { w: 9, h: 2, total: "));
+}

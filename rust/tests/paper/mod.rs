@@ -1,0 +1,331 @@
+//! The independent renderer: document 01 said again as plainly as it can be, each position drawn from its owner.
+//!
+//! It shares no code with the library and holds nothing between calls. It is slow on purpose: every question is answered
+//! by a fresh drawing of the whole picture.
+#![allow(dead_code)] // each test program uses its own part
+
+use luphwezane::{Block, Pictures, Planes, Report, Settings};
+
+/// What a view shows at a position.
+#[derive(Clone, Copy, Debug, PartialEq, Eq)]
+pub struct Pixel {
+    pub sample: u8,
+    pub mark: u8,
+    pub front: u8,
+}
+
+/// One drawn row of a view, unpacked, and its limits.
+#[derive(Clone, Debug, PartialEq, Eq)]
+pub struct DrawnRow {
+    pub pixels: Vec<Pixel>,
+    pub limits: Vec<i16>,
+}
+
+/// "One row of the left view".
+pub struct LeftRow<'a> {
+    pub table: &'a [u16; 256],
+    pub texture: &'a [u8],
+    pub depths: &'a [u8],
+}
+
+impl LeftRow<'_> {
+    pub fn w(&self) -> usize {
+        self.depths.len()
+    }
+
+    /// Column c with depth d has the place 4 × c − table[d].
+    pub fn place(&self, c: usize) -> i32 {
+        4 * c as i32 - i32::from(self.table[usize::from(self.depths[c])])
+    }
+
+    /// The limit of c is the least place among columns c to w − 1.
+    pub fn limit(&self, c: usize) -> i32 {
+        (c..self.w()).map(|e| self.place(e)).min().expect("c is a column")
+    }
+
+    /// Position p is owned by the greatest column whose place is at most 4 × p.
+    pub fn owner(&self, p: usize) -> usize {
+        (0..self.w()).rev().find(|&c| self.place(c) <= 4 * p as i32).expect("column 0 has a place of 0 or less")
+    }
+
+    pub fn pixel(&self, p: usize) -> Pixel {
+        let c = self.owner(p);
+        let t = 4 * p as i32 - self.place(c);
+        let plain = |c: usize, mark: u8| Pixel { sample: self.texture[c], mark, front: self.depths[c] };
+        if c == self.w() - 1 {
+            return plain(c, u8::from(t > 1));
+        }
+        let gap = self.place(c + 1) - self.place(c);
+        if gap <= 0 {
+            panic!("a hidden pair owns nothing");
+        } else if gap <= 8 {
+            let k = (8 * t + gap) / (2 * gap);
+            assert!((0..=4).contains(&k));
+            let (here, next) = (i32::from(self.texture[c]), i32::from(self.texture[c + 1]));
+            Pixel { sample: ((here * (4 - k) + next * k + 2) / 4) as u8, mark: 0, front: self.depths[c] }
+        } else if t <= 1 {
+            plain(c, 0)
+        } else {
+            plain(c + 1, 1)
+        }
+    }
+
+    pub fn drawn(&self) -> DrawnRow {
+        DrawnRow { pixels: (0..self.w()).map(|p| self.pixel(p)).collect(), limits: (0..self.w()).map(|c| self.limit(c) as i16).collect() }
+    }
+}
+
+pub fn reversed<T: Copy>(row: &[T]) -> Vec<T> {
+    row.iter().rev().copied().collect()
+}
+
+/// One row of view 0 or 1. The right view is the same rule over the row read backwards, its results written back in
+/// reverse.
+pub fn drawn_row(table: &[u16; 256], view: usize, texture: &[u8], depths: &[u8]) -> DrawnRow {
+    if view == 0 {
+        return LeftRow { table, texture, depths }.drawn();
+    }
+    let backwards = LeftRow { table, texture: &reversed(texture), depths: &reversed(depths) }.drawn();
+    DrawnRow { pixels: reversed(&backwards.pixels), limits: reversed(&backwards.limits) }
+}
+
+/// (w + 7) div 8 bytes a row.
+#[allow(clippy::manual_div_ceil)]
+pub fn mark_bytes(w: usize) -> usize {
+    (w + 7) / 8
+}
+
+/// Marks packed, position p in bit p mod 8 of byte p div 8, spare bits zero.
+pub fn packed(marks: impl ExactSizeIterator<Item = u8>) -> Vec<u8> {
+    let mut bytes = vec![0; mark_bytes(marks.len())];
+    for (p, mark) in marks.enumerate() {
+        bytes[p / 8] += mark << (p % 8);
+    }
+    bytes
+}
+
+/// "Combined picture and total": the combined sample of a position.
+pub fn combined(share: u8, tolerance: u8, left: Pixel, right: Pixel) -> u8 {
+    let share = u32::from(share);
+    match (left.mark, right.mark) {
+        (0, 0) if left.front.abs_diff(right.front) <= tolerance => {
+            ((u32::from(left.sample) * (64 - share) + u32::from(right.sample) * share + 32) / 64) as u8
+        }
+        (0, 0) if left.front > right.front => left.sample,
+        (0, 0) => right.sample,
+        (0, _) => left.sample,
+        (_, 0) => right.sample,
+        _ if left.front <= right.front => left.sample,
+        _ => right.sample,
+    }
+}
+
+/// Every held plane, and the total.
+#[derive(Clone, Debug, PartialEq, Eq)]
+pub struct Drawing {
+    pub samples: [Vec<u8>; 2],
+    pub fronts: [Vec<u8>; 2],
+    pub limits: [Vec<i16>; 2],
+    pub marks: [Vec<u8>; 2],
+    pub combined: Vec<u8>,
+    pub total: u64,
+}
+
+pub fn table(settings: &Settings, view: usize) -> &[u16; 256] {
+    [&settings.left, &settings.right][view]
+}
+
+/// A fresh drawing of both depth planes.
+pub fn drawing(settings: &Settings, pictures: &Pictures, depths: [&[u8]; 2]) -> Drawing {
+    let (w, h) = (settings.w as usize, settings.h as usize);
+    let mut all = Drawing {
+        samples: [vec![], vec![]],
+        fronts: [vec![], vec![]],
+        limits: [vec![], vec![]],
+        marks: [vec![], vec![]],
+        combined: vec![],
+        total: 0,
+    };
+    for y in 0..h {
+        let part = y * w..(y + 1) * w;
+        let rows = [0, 1].map(|v| drawn_row(table(settings, v), v, &pictures.textures[v][part.clone()], &depths[v][part.clone()]));
+        for (v, DrawnRow { pixels, limits }) in rows.iter().enumerate() {
+            all.samples[v].extend(pixels.iter().map(|x| x.sample));
+            all.fronts[v].extend(pixels.iter().map(|x| x.front));
+            all.limits[v].extend(limits);
+            all.marks[v].extend(packed(pixels.iter().map(|x| x.mark)));
+        }
+        for x in 0..w {
+            let sample = combined(settings.share, settings.tolerance, rows[0].pixels[x], rows[1].pixels[x]);
+            let error = i64::from(sample) - i64::from(pictures.reference[y * w + x]);
+            all.combined.push(sample);
+            all.total += (error * error) as u64;
+        }
+    }
+    all
+}
+
+/// The depth planes with the candidate written into the block of the view's plane.
+pub fn written(settings: &Settings, depths: [&[u8]; 2], view: usize, block: Block, candidate: &[u8]) -> [Vec<u8>; 2] {
+    let mut planes = depths.map(<[u8]>::to_vec);
+    for y in 0..block.height as usize {
+        for x in 0..block.width as usize {
+            let at = (block.row as usize + y) * settings.w as usize + block.column as usize + x;
+            planes[view][at] = candidate[y * block.width as usize + x];
+        }
+    }
+    planes
+}
+
+/// "Calls and what they turn down": the lengths of all planes but the candidate.
+pub fn lengths_are_exact(settings: &Settings, pictures: &Pictures, planes: &Planes) -> bool {
+    let n = settings.w as usize * settings.h as usize;
+    let m = mark_bytes(settings.w as usize) * settings.h as usize;
+    let bytes = [pictures.textures, planes.depths, planes.samples, planes.fronts];
+    bytes.iter().flatten().all(|plane| plane.len() == n)
+        && planes.limits.iter().all(|plane| plane.len() == n)
+        && planes.marks.iter().all(|plane| plane.len() == m)
+        && pictures.reference.len() == n
+        && planes.combined.len() == n
+}
+
+pub fn side_is_taken(n: u32) -> bool {
+    (1..=4096).contains(&n)
+}
+
+pub fn tables_are_taken(settings: &Settings) -> bool {
+    settings.left.iter().chain(&settings.right).all(|&entry| entry <= 1023)
+}
+
+/// OPEN and CHECK refuse 1, 2, 3, 4. The number, 0 for none.
+pub fn common_number(settings: &Settings, pictures: &Pictures, planes: &Planes) -> u32 {
+    if !side_is_taken(settings.w) || !side_is_taken(settings.h) {
+        1
+    } else if !lengths_are_exact(settings, pictures, planes) {
+        2
+    } else if !tables_are_taken(settings) {
+        3
+    } else if settings.share > 64 {
+        4
+    } else {
+        0
+    }
+}
+
+/// GET and SET refuse 1, 2, 3, 4, 6, 5, 7, and then 8, which is left out here.
+pub fn call_number(settings: &Settings, pictures: &Pictures, planes: &Planes, view: u32, block: Block, candidate: &[u8]) -> u32 {
+    let common = common_number(settings, pictures, planes);
+    let [column, row, width, height] = [block.column, block.row, block.width, block.height].map(u64::from);
+    if common != 0 {
+        common
+    } else if view > 1 {
+        6
+    } else if width == 0 || height == 0 || column + width > u64::from(settings.w) || row + height > u64::from(settings.h) {
+        5
+    } else if candidate.len() as u64 != width * height {
+        7
+    } else {
+        0
+    }
+}
+
+/// RENDER refuses 1, 2, 3, then 6; `lens` are those of texture, depths, samples and fronts.
+pub fn render_number(settings: &Settings, view: u32, lens: [usize; 4], marks: usize) -> u32 {
+    let w = settings.w as usize;
+    if !side_is_taken(settings.w) {
+        1
+    } else if lens != [w; 4] || marks != mark_bytes(w) {
+        2
+    } else if !tables_are_taken(settings) {
+        3
+    } else if view > 1 {
+        6
+    } else {
+        0
+    }
+}
+
+/// HOLES refuses 1, 2, then 6.
+pub fn holes_number(settings: &Settings, view: u32, marks: [&[u8]; 2]) -> u32 {
+    let m = mark_bytes(settings.w as usize) * settings.h as usize;
+    if !side_is_taken(settings.w) || !side_is_taken(settings.h) {
+        1
+    } else if marks.iter().any(|plane| plane.len() != m) {
+        2
+    } else if view > 1 {
+        6
+    } else {
+        0
+    }
+}
+
+/// The mark of column x of row y.
+pub fn mark(settings: &Settings, marks: &[u8], y: usize, x: usize) -> u8 {
+    marks[y * mark_bytes(settings.w as usize) + x / 8] >> (x % 8) & 1
+}
+
+/// HOLES counts the marks of 1 at positions below w.
+pub fn holes(settings: &Settings, marks: &[u8]) -> u64 {
+    let mut count = 0;
+    for y in 0..settings.h as usize {
+        for x in 0..settings.w as usize {
+            count += u64::from(mark(settings, marks, y, x));
+        }
+    }
+    count
+}
+
+/// What CHECK answers for these planes and this total: the first difference by rows from a fresh drawing.
+pub fn report(settings: &Settings, fresh: &Drawing, planes: &Planes) -> Report {
+    let (w, h) = (settings.w as usize, settings.h as usize);
+    let spare = |marks: &[u8], y: usize| if w % 8 == 0 { 0 } else { marks[(y + 1) * mark_bytes(w) - 1] >> (w % 8) };
+    for y in 0..h {
+        for x in 0..w {
+            let at = y * w + x;
+            let same = (0..2).all(|v| {
+                planes.samples[v][at] == fresh.samples[v][at]
+                    && planes.fronts[v][at] == fresh.fronts[v][at]
+                    && planes.limits[v][at] == fresh.limits[v][at]
+                    && mark(settings, planes.marks[v], y, x) == mark(settings, &fresh.marks[v], y, x)
+                    && (x < w - 1 || spare(planes.marks[v], y) == spare(&fresh.marks[v], y))
+            });
+            if !same || planes.combined[at] != fresh.combined[at] {
+                return Report::Difference { row: y as u32, column: x as u32 };
+            }
+        }
+    }
+    if settings.total == fresh.total {
+        Report::Sound
+    } else {
+        Report::Total
+    }
+}
+
+/// "The span of an edit": where an edit of the block from the depths `old` to the depths `new` of one view may show in row
+/// y, and which of the row's limits may change.
+pub struct Span {
+    pub shown: Vec<bool>,
+    pub limits: Vec<bool>,
+}
+
+pub fn span(settings: &Settings, view: usize, block: Block, old: &[u8], new: &[u8], y: usize) -> Span {
+    let w = settings.w as usize;
+    let row = |plane: &[u8]| if view == 0 { plane[y * w..(y + 1) * w].to_vec() } else { reversed(&plane[y * w..(y + 1) * w]) };
+    let (old, new) = (row(old), row(new));
+    let (a, width) = (block.column as usize, block.width as usize);
+    let a = if view == 0 { a } else { w - a - width };
+    let b = a + width - 1;
+    let old = LeftRow { table: table(settings, view), texture: &[], depths: &old };
+    let new = LeftRow { table: table(settings, view), texture: &[], depths: &new };
+    let mut low = (a..=b).map(|c| old.place(c).min(new.place(c))).min().expect("the block has a column");
+    if a > 0 {
+        low = low.min(old.place(a - 1));
+    }
+    let shown = |p: usize| low <= 4 * p as i32 && (b == w - 1 || 4 * (p as i32) < old.limit(b + 1));
+    let mut span = Span { shown: (0..w).map(shown).collect(), limits: (0..w).map(|c| c <= b).collect() };
+    if view == 1 {
+        span.shown.reverse();
+        span.limits.reverse();
+    }
+    span
+}

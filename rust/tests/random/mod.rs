@@ -1,0 +1,302 @@
+//! Random numbers, settings, pictures and blocks for the tests, all from one printed seed.
+#![allow(dead_code)] // each test program uses its own part
+
+use luphwezane::{Block, Pictures, Planes, PlanesMut, Settings};
+use std::io::Write;
+
+/// A small generator (SplitMix64).
+pub struct Random(u64);
+
+impl Random {
+    /// The generator of one numbered session of a seed.
+    pub fn new(seed: u64, session: u64) -> Random {
+        let mut random = Random(seed ^ session.wrapping_mul(0xd134_2543_de82_ef95));
+        random.next();
+        random
+    }
+
+    pub fn next(&mut self) -> u64 {
+        self.0 = self.0.wrapping_add(0x9e37_79b9_7f4a_7c15);
+        let mut z = self.0;
+        z = (z ^ (z >> 30)).wrapping_mul(0xbf58_476d_1ce4_e5b9);
+        z = (z ^ (z >> 27)).wrapping_mul(0x94d0_49bb_1331_11eb);
+        z ^ (z >> 31)
+    }
+
+    /// A number from `low` to `high`, both included.
+    pub fn between(&mut self, low: usize, high: usize) -> usize {
+        low + (self.next() % (high - low + 1) as u64) as usize
+    }
+
+    /// True once in `n` times.
+    pub fn once_in(&mut self, n: usize) -> bool {
+        self.between(1, n) == 1
+    }
+
+    pub fn byte(&mut self) -> u8 {
+        self.next() as u8
+    }
+
+    pub fn pick<T: Copy>(&mut self, from: &[T]) -> T {
+        from[self.between(0, from.len() - 1)]
+    }
+
+    pub fn bytes(&mut self, n: usize) -> Vec<u8> {
+        (0..n).map(|_| self.byte()).collect()
+    }
+}
+
+/// A number from the environment, for repeating a run or a longer one.
+pub fn from_environment(name: &str, otherwise: u64) -> u64 {
+    match std::env::var(name) {
+        Ok(text) => text.parse().unwrap_or_else(|_| panic!("{name} must be a number, not {text:?}")),
+        Err(_) => otherwise,
+    }
+}
+
+/// Runs numbered sessions of one seed and, where one fails, says how to repeat it alone.
+///
+/// LUPH_SEED, LUPH_FIRST and LUPH_SESSIONS choose the seed, the first session and how many there are.
+pub fn sessions(name: &str, otherwise: u64, session: impl Fn(&mut Random, u64)) {
+    let seed = from_environment("LUPH_SEED", 1);
+    let first = from_environment("LUPH_FIRST", 0);
+    let count = from_environment("LUPH_SESSIONS", otherwise);
+    let say = |text: String| writeln!(std::io::stderr(), "{name}: {text}").expect("standard error takes a line");
+    say(format!("LUPH_SEED={seed} LUPH_FIRST={first} LUPH_SESSIONS={count}"));
+    for number in first..first + count {
+        let run = || session(&mut Random::new(seed, number), number);
+        if let Err(failure) = std::panic::catch_unwind(std::panic::AssertUnwindSafe(run)) {
+            say(format!("session {number} failed; to repeat it: LUPH_SEED={seed} LUPH_FIRST={number} LUPH_SESSIONS=1"));
+            std::panic::resume_unwind(failure);
+        }
+        if count > otherwise && (number - first + 1) % otherwise == 0 {
+            say(format!("{} of {count} done", number - first + 1));
+        }
+    }
+}
+
+/// Columns and rows: mostly small, some at the edges.
+pub fn size(random: &mut Random) -> (usize, usize) {
+    match random.between(0, 599) {
+        0 => (4096, random.between(1, 2)),
+        1 => (random.between(1, 3), 4096),
+        2..=5 => (random.between(200, 1100), random.between(1, 2)),
+        6..=40 => (random.between(41, 130), random.between(1, 4)),
+        41..=200 => (random.pick(&[1, 7, 8, 9, 15, 16, 17]), random.between(1, 6)),
+        _ => (random.between(1, 40), random.between(1, 8)),
+    }
+}
+
+/// A table of disparities: rising, falling, flat or wild, small or large.
+pub fn table(random: &mut Random, w: usize) -> [u16; 256] {
+    let most = random.pick(&[3, 9, 20, 60, 4 * w.min(255), 255, 1023]);
+    let entry = random.between(0, most);
+    match random.between(0, 6) {
+        0 => std::array::from_fn(|d| d as u16),
+        1 => std::array::from_fn(|d| (d * most / 255) as u16),
+        2 => std::array::from_fn(|d| ((255 - d) * most / 255) as u16),
+        3 => [entry as u16; 256],
+        4 => std::array::from_fn(|_| random.pick(&[0, most as u16])),
+        _ => std::array::from_fn(|_| random.between(0, most) as u16),
+    }
+}
+
+/// A plane of samples or depths: noise, few levels, a slope, or rectangles on a ground.
+pub fn plane(random: &mut Random, w: usize, h: usize) -> Vec<u8> {
+    let (low, high) = (random.byte(), random.byte());
+    match random.between(0, 4) {
+        0 => random.bytes(w * h),
+        1 => (0..w * h).map(|_| random.pick(&[low, high, high])).collect(),
+        2 => (0..w * h).map(|at| low.wrapping_add((at % w) as u8).wrapping_add((at / w) as u8)).collect(),
+        3 => (0..w * h).map(|_| low.wrapping_add(random.byte() % 6)).collect(),
+        _ => {
+            let mut plane = vec![low; w * h];
+            for _ in 0..3 {
+                let b = block(random, w, h);
+                fill(&mut plane, w, b, random.byte());
+            }
+            plane
+        }
+    }
+}
+
+fn fill(plane: &mut [u8], w: usize, block: Block, value: u8) {
+    for y in block.row as usize..(block.row + block.height) as usize {
+        let start = y * w + block.column as usize;
+        plane[start..start + block.width as usize].fill(value);
+    }
+}
+
+/// A block, from 1 × 1 to the whole picture.
+pub fn block(random: &mut Random, w: usize, h: usize) -> Block {
+    let (width, height) = match random.between(0, 9) {
+        0 => (w, h),
+        1 => (1, 1),
+        2 => (w, 1),
+        3 => (1, h),
+        4..=6 => (random.between(1, w.min(8)), random.between(1, h.min(4))),
+        _ => (random.between(1, w), random.between(1, h)),
+    };
+    let column = random.between(0, w - width);
+    let row = random.between(0, h - height);
+    Block { column: column as u32, row: row as u32, width: width as u32, height: height as u32 }
+}
+
+/// Candidate depths for a block: flat, noise, few levels, or the depths as they are, some or none of them moved.
+pub fn candidate(random: &mut Random, w: usize, depths: &[u8], block: Block) -> Vec<u8> {
+    let area = (block.width * block.height) as usize;
+    let now = || -> Vec<u8> {
+        let rows = block.row as usize..(block.row + block.height) as usize;
+        rows.flat_map(|y| depths[y * w + block.column as usize..][..block.width as usize].to_vec()).collect()
+    };
+    let (low, high) = (random.byte(), random.byte());
+    match random.between(0, 9) {
+        0 => now(),
+        1..=3 => now().into_iter().map(|d| if random.once_in(4) { d.wrapping_add(random.byte() % 16) } else { d }).collect(),
+        4 | 5 => vec![low; area],
+        6 => vec![random.pick(depths); area],
+        7 => (0..area).map(|_| random.pick(&[low, high])).collect(),
+        _ => random.bytes(area),
+    }
+}
+
+/// Pictures and depths of a session.
+pub struct Scene {
+    pub settings: Settings,
+    pub textures: [Vec<u8>; 2],
+    pub reference: Vec<u8>,
+    pub depths: [Vec<u8>; 2],
+}
+
+impl Scene {
+    /// A scene with this share and tolerance.
+    pub fn new(random: &mut Random, share: u8, tolerance: u8) -> Scene {
+        let (w, h) = size(random);
+        Scene::sized(random, w, h, share, tolerance)
+    }
+
+    pub fn sized(random: &mut Random, w: usize, h: usize, share: u8, tolerance: u8) -> Scene {
+        let left = table(random, w);
+        let right = if random.once_in(2) { left } else { table(random, w) };
+        let total = random.next();
+        let settings = Settings { w: w as u32, h: h as u32, left, right, share, tolerance, total };
+        let textures = [plane(random, w, h), plane(random, w, h)];
+        let reference = if random.once_in(3) { textures[0].clone() } else { plane(random, w, h) };
+        Scene { settings, textures, reference, depths: [plane(random, w, h), plane(random, w, h)] }
+    }
+
+    pub fn pictures(&self) -> Pictures<'_> {
+        Pictures { textures: [&self.textures[0], &self.textures[1]], reference: &self.reference }
+    }
+
+    pub fn depths(&self) -> [&[u8]; 2] {
+        [&self.depths[0], &self.depths[1]]
+    }
+}
+
+/// Entries with guards on both sides, which show a write outside.
+#[derive(Clone, PartialEq, Eq, Debug)]
+pub struct Guarded<T> {
+    all: Vec<T>,
+    guard: T,
+}
+
+const MARGIN: usize = 64;
+
+impl<T: Copy + PartialEq> Guarded<T> {
+    pub fn new(entries: &[T], guard: T) -> Guarded<T> {
+        let mut all = vec![guard; MARGIN];
+        all.extend(entries);
+        all.extend([guard; MARGIN]);
+        Guarded { all, guard }
+    }
+
+    pub fn entries(&self) -> &[T] {
+        &self.all[MARGIN..self.all.len() - MARGIN]
+    }
+
+    pub fn entries_mut(&mut self) -> &mut [T] {
+        let end = self.all.len() - MARGIN;
+        &mut self.all[MARGIN..end]
+    }
+
+    pub fn guard(&self) -> T {
+        self.guard
+    }
+
+    pub fn is_intact(&self) -> bool {
+        let end = self.all.len() - MARGIN;
+        self.all[..MARGIN].iter().chain(&self.all[end..]).all(|&x| x == self.guard)
+    }
+}
+
+/// The planes of a session in guarded memory.
+#[derive(Clone, PartialEq, Eq, Debug)]
+pub struct GuardedPlanes {
+    pub depths: [Guarded<u8>; 2],
+    pub samples: [Guarded<u8>; 2],
+    pub fronts: [Guarded<u8>; 2],
+    pub limits: [Guarded<i16>; 2],
+    pub marks: [Guarded<u8>; 2],
+    pub combined: Guarded<u8>,
+}
+
+impl GuardedPlanes {
+    /// Planes of the right lengths for a picture of w × h, with anything in the held ones.
+    pub fn new(random: &mut Random, w: usize, h: usize, depths: [&[u8]; 2]) -> GuardedPlanes {
+        let mut pair = |n: usize| [(); 2].map(|()| Guarded::new(&random.bytes(n), 0xa5));
+        let (samples, fronts, marks) = (pair(w * h), pair(w * h), pair(w.div_ceil(8) * h));
+        let combined = Guarded::new(&random.bytes(w * h), 0xa5);
+        let limits = [(); 2].map(|()| {
+            let entries: Vec<i16> = (0..w * h).map(|_| garbage_limit(random)).collect();
+            Guarded::new(&entries, -23206)
+        });
+        GuardedPlanes { depths: depths.map(|plane| Guarded::new(plane, 0xa5)), samples, fronts, limits, marks, combined }
+    }
+
+    pub fn shared(&self) -> Planes<'_> {
+        Planes {
+            depths: both(&self.depths),
+            samples: both(&self.samples),
+            fronts: both(&self.fronts),
+            limits: both(&self.limits),
+            marks: both(&self.marks),
+            combined: self.combined.entries(),
+        }
+    }
+
+    pub fn lent(&mut self) -> PlanesMut<'_> {
+        PlanesMut {
+            depths: both_mut(&mut self.depths),
+            samples: both_mut(&mut self.samples),
+            fronts: both_mut(&mut self.fronts),
+            limits: both_mut(&mut self.limits),
+            marks: both_mut(&mut self.marks),
+            combined: self.combined.entries_mut(),
+        }
+    }
+
+    pub fn are_intact(&self) -> bool {
+        let bytes = [&self.depths, &self.samples, &self.fronts, &self.marks];
+        bytes.into_iter().flatten().all(Guarded::is_intact) && self.limits.iter().all(Guarded::is_intact) && self.combined.is_intact()
+    }
+}
+
+/// A limit that may be right, wrong, or far off.
+fn garbage_limit(random: &mut Random) -> i16 {
+    match random.between(0, 3) {
+        0 => random.pick(&[i16::MIN, i16::MAX, -1024, -1023, -1, 0, 1, 16384]),
+        1 => random.next() as i16,
+        _ => random.between(0, 1200) as i16 - 1000,
+    }
+}
+
+fn both<T: Copy + PartialEq>(pair: &[Guarded<T>; 2]) -> [&[T]; 2] {
+    let [left, right] = pair;
+    [left.entries(), right.entries()]
+}
+
+fn both_mut<T: Copy + PartialEq>(pair: &mut [Guarded<T>; 2]) -> [&mut [T]; 2] {
+    let [left, right] = pair;
+    [left.entries_mut(), right.entries_mut()]
+}

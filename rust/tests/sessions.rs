@@ -1,0 +1,278 @@
+//! Random sessions, matched with the independent renderer: every reply, every plane with its spare bits, the total, CHECK
+//! and HOLES after every call.
+//!
+//! Each session runs twice at once: over guarded planes that the test keeps, and as a `Session`. A longer run:
+//!
+//!     LUPH_SEED=7 LUPH_SESSIONS=100000 cargo test --release --offline --test sessions
+
+mod paper;
+mod random;
+
+use luphwezane::{lent, Block, Planes, Refusal, Report, Session, Settings, View};
+use paper::Drawing;
+use random::{Guarded, GuardedPlanes, Random, Scene};
+
+/// A session under test, and the plain record that it is matched with.
+struct Run {
+    scene: Scene,
+    /// What the calls are passed and answer.
+    settings: Settings,
+    planes: GuardedPlanes,
+    session: Session,
+    /// The record: two depth planes, and their fresh drawing.
+    record: [Vec<u8>; 2],
+    fresh: Drawing,
+}
+
+impl Run {
+    fn open(random: &mut Random, scene: Scene) -> Run {
+        let (w, h) = (scene.settings.w as usize, scene.settings.h as usize);
+        let mut settings = scene.settings;
+        let mut planes = GuardedPlanes::new(random, w, h, scene.depths());
+        assert_eq!(lent::open(&mut settings, &scene.pictures(), &mut planes.lent()), Ok(()));
+        let session = Session::open(&scene.settings, &scene.pictures(), scene.depths()).expect("OPEN accepts it too");
+        let fresh = paper::drawing(&scene.settings, &scene.pictures(), scene.depths());
+        let record = scene.depths.clone();
+        let run = Run { scene, settings, planes, session, record, fresh };
+        run.compare();
+        run
+    }
+
+    fn record(&self) -> [&[u8]; 2] {
+        [&self.record[0], &self.record[1]]
+    }
+
+    fn drawing(&self, depths: &[Vec<u8>; 2]) -> Drawing {
+        paper::drawing(&self.scene.settings, &self.scene.pictures(), [&depths[0], &depths[1]])
+    }
+
+    /// All that is held, against the record and its fresh drawing.
+    fn compare(&self) {
+        let settings = Settings { total: self.fresh.total, ..self.scene.settings };
+        assert_eq!(self.settings, settings);
+        assert_eq!(*self.session.settings(), settings);
+        assert!(self.planes.are_intact(), "a guard was written");
+        self.compare_planes(&self.planes.shared());
+        self.compare_planes(&self.session.planes());
+        assert_eq!(lent::check(&self.settings, &self.scene.pictures(), &self.planes.shared()), Ok(Report::Sound));
+        assert_eq!(self.session.check(), Report::Sound);
+        for view in View::BOTH {
+            let holes = paper::holes(&self.settings, &self.fresh.marks[view as usize]);
+            assert_eq!(lent::holes(&self.settings, view as u32, self.planes.shared().marks), Ok(holes));
+            assert_eq!(self.session.holes(view), holes);
+        }
+    }
+
+    fn compare_planes(&self, planes: &Planes) {
+        for v in 0..2 {
+            assert_eq!(planes.depths[v], self.record[v], "depths of view {v}");
+            assert_eq!(planes.samples[v], self.fresh.samples[v], "samples of view {v}");
+            assert_eq!(planes.fronts[v], self.fresh.fronts[v], "fronts of view {v}");
+            assert_eq!(planes.limits[v], self.fresh.limits[v], "limits of view {v}");
+            assert_eq!(planes.marks[v], self.fresh.marks[v], "marks of view {v}");
+        }
+        assert_eq!(planes.combined, self.fresh.combined, "combined picture");
+    }
+
+    fn get(&self, view: View, block: Block, candidate: &[u8]) -> i64 {
+        let depths = paper::written(&self.settings, self.record(), view as usize, block, candidate);
+        let change = self.drawing(&depths).total as i64 - self.fresh.total as i64;
+        let (pictures, planes) = (self.scene.pictures(), self.planes.shared());
+        assert_eq!(lent::get(&self.settings, &pictures, &planes, view as u32, block, candidate), Ok(change));
+        assert_eq!(self.session.get(view, block, candidate), Ok(change));
+        self.compare();
+        change
+    }
+
+    fn set(&mut self, view: View, block: Block, candidate: &[u8]) -> i64 {
+        let depths = paper::written(&self.settings, self.record(), view as usize, block, candidate);
+        let fresh = self.drawing(&depths);
+        let change = fresh.total as i64 - self.fresh.total as i64;
+        let (pictures, mut planes) = (self.scene.pictures(), self.planes.lent());
+        assert_eq!(lent::set(&mut self.settings, &pictures, &mut planes, view as u32, block, candidate), Ok(change));
+        assert_eq!(self.session.set(view, block, candidate), Ok(change));
+        let before = (std::mem::replace(&mut self.record, depths), std::mem::replace(&mut self.fresh, fresh));
+        self.compare();
+        self.compare_span(view as usize, block, &before.0, &before.1);
+        change
+    }
+
+    /// A SET shows in the spans of the block's rows only, moves limits of columns up to the block's last only, and leaves
+    /// the other view alone.
+    fn compare_span(&self, v: usize, block: Block, depths: &[Vec<u8>; 2], before: &Drawing) {
+        let (w, h) = (self.settings.w as usize, self.settings.h as usize);
+        let (held, other) = (self.planes.shared(), 1 - v);
+        assert_eq!(held.samples[other], before.samples[other]);
+        assert_eq!(held.fronts[other], before.fronts[other]);
+        assert_eq!(held.limits[other], before.limits[other]);
+        assert_eq!(held.marks[other], before.marks[other]);
+        for y in 0..h {
+            let edited = (block.row as usize..(block.row + block.height) as usize).contains(&y);
+            let span = edited.then(|| paper::span(&self.settings, v, block, &depths[v], &self.record[v], y));
+            for x in 0..w {
+                let at = y * w + x;
+                let shown = span.as_ref().is_some_and(|span| span.shown[x]);
+                let moves = span.as_ref().is_some_and(|span| span.limits[x]);
+                let same = held.samples[v][at] == before.samples[v][at]
+                    && held.fronts[v][at] == before.fronts[v][at]
+                    && held.combined[at] == before.combined[at]
+                    && paper::mark(&self.settings, held.marks[v], y, x) == paper::mark(&self.settings, &before.marks[v], y, x);
+                assert!(same || shown, "row {y}, column {x} changed outside the span");
+                assert!(held.limits[v][at] == before.limits[v][at] || moves, "limit at row {y}, column {x} changed");
+            }
+        }
+    }
+
+    /// A call of a run that meets 5, 6 or 7: it is refused and all stays.
+    fn refused(&mut self, view: u32, block: Block, candidate: &[u8]) {
+        let (pictures, planes) = (self.scene.pictures(), self.planes.shared());
+        let number = paper::call_number(&self.settings, &pictures, &planes, view, block, candidate);
+        let refusal = Refusal::from_number(number).expect("the call is to be refused");
+        assert_eq!(lent::get(&self.settings, &pictures, &planes, view, block, candidate), Err(refusal));
+        assert_eq!(lent::set(&mut self.settings, &pictures, &mut self.planes.lent(), view, block, candidate), Err(refusal));
+        if let Some(view) = View::BOTH.into_iter().find(|v| *v as u32 == view) {
+            assert_eq!(self.session.get(view, block, candidate), Err(refusal));
+            assert_eq!(self.session.set(view, block, candidate), Err(refusal));
+        }
+        self.compare();
+    }
+
+    fn any_edit(&self, random: &mut Random) -> (View, Block, Vec<u8>) {
+        let (w, h) = (self.settings.w as usize, self.settings.h as usize);
+        let view = random.pick(&View::BOTH);
+        let block = random::block(random, w, h);
+        (view, block, random::candidate(random, w, &self.record[view as usize], block))
+    }
+
+    /// Several candidates for one block: the best is set, or all are dropped.
+    fn tried(&mut self, random: &mut Random) {
+        let (view, block, mut best) = self.any_edit(random);
+        let mut least = self.get(view, block, &best);
+        for _ in 0..random.between(1, 5) {
+            let candidate = random::candidate(random, self.settings.w as usize, &self.record[view as usize], block);
+            let change = self.get(view, block, &candidate);
+            if change < least {
+                (least, best) = (change, candidate);
+            }
+        }
+        if random.once_in(2) {
+            assert_eq!(self.set(view, block, &best), least);
+        }
+    }
+
+    /// A SET taken back by a SET of the depths that were there.
+    fn taken_back(&mut self, random: &mut Random) {
+        let (view, block, candidate) = self.any_edit(random);
+        let (w, before) = (self.settings.w as usize, self.fresh.clone());
+        let rows = block.row as usize..(block.row + block.height) as usize;
+        let row = |y: usize| &self.record[view as usize][y * w + block.column as usize..][..block.width as usize];
+        let old: Vec<u8> = rows.flat_map(|y| row(y).to_vec()).collect();
+        assert_eq!(self.set(view, block, &old), 0);
+        let change = self.set(view, block, &candidate);
+        assert_eq!(self.set(view, block, &old), -change);
+        assert_eq!(self.fresh, before);
+    }
+
+    fn any_refused(&mut self, random: &mut Random) {
+        let (view, mut block, mut candidate) = self.any_edit(random);
+        let mut view = view as u32;
+        match random.between(0, 6) {
+            0 => view = random.pick(&[2, 3, 255, 256, u32::MAX]),
+            1 => block.width = 0,
+            2 => block.height = 0,
+            3 => block.column = random.pick(&[self.settings.w, u32::MAX, u32::MAX - block.width + 1]),
+            4 => block.row = random.pick(&[self.settings.h, u32::MAX, u32::MAX - block.height + 1]),
+            5 => candidate.push(0),
+            _ => drop(candidate.pop()),
+        }
+        self.refused(view, block, &candidate);
+    }
+
+    fn call(&mut self, random: &mut Random) {
+        match random.between(0, 9) {
+            0..=2 => {
+                let (view, block, candidate) = self.any_edit(random);
+                self.get(view, block, &candidate);
+            }
+            3..=5 => {
+                let (view, block, candidate) = self.any_edit(random);
+                self.set(view, block, &candidate);
+            }
+            6 | 7 => self.tried(random),
+            8 => self.taken_back(random),
+            _ => self.any_refused(random),
+        }
+    }
+
+    /// CHECK and HOLES over planes that are not those of a session: the first difference, and the marks below w.
+    fn damaged(&self, random: &mut Random) {
+        let (mut planes, mut settings) = (self.planes.clone(), self.settings);
+        for _ in 0..random.between(1, 3) {
+            damage(random, &mut planes, &mut settings);
+        }
+        let report = paper::report(&settings, &self.fresh, &planes.shared());
+        assert_eq!(lent::check(&settings, &self.scene.pictures(), &planes.shared()), Ok(report));
+        for v in 0..2 {
+            let marks = planes.shared().marks;
+            assert_eq!(lent::holes(&settings, v, marks), Ok(paper::holes(&settings, marks[v as usize])));
+        }
+    }
+
+    /// RENDER of one row of each view; h, share and tolerance play no part in it.
+    fn rendered(&self, random: &mut Random) {
+        let w = self.settings.w as usize;
+        let y = random.between(0, self.settings.h as usize - 1);
+        let settings = Settings { h: random.pick(&[0, 1, u32::MAX]), share: random.byte(), tolerance: random.byte(), ..self.settings };
+        for view in View::BOTH {
+            let texture = &self.scene.textures[view as usize][y * w..(y + 1) * w];
+            let depths = &self.record[view as usize][y * w..(y + 1) * w];
+            let drawn = paper::drawn_row(paper::table(&settings, view as usize), view as usize, texture, depths);
+            let mut outputs = [w, paper::mark_bytes(w), w].map(|n| Guarded::new(&random.bytes(n), 0x5a));
+            let [samples, marks, fronts] = outputs.each_mut().map(Guarded::entries_mut);
+            assert_eq!(lent::render(&settings, view as u32, texture, depths, samples, marks, fronts), Ok(()));
+            assert!(outputs.iter().all(Guarded::is_intact), "a guard was written");
+            let row = luphwezane::render(&settings, view, texture, depths).expect("RENDER accepts it too");
+            let [samples, marks, fronts] = outputs.each_ref().map(Guarded::entries);
+            assert_eq!((samples, marks, fronts), (&row.samples[..], &row.marks[..], &row.fronts[..]));
+            assert_eq!(samples, drawn.pixels.iter().map(|x| x.sample).collect::<Vec<_>>());
+            assert_eq!(marks, paper::packed(drawn.pixels.iter().map(|x| x.mark)));
+            assert_eq!(fronts, drawn.pixels.iter().map(|x| x.front).collect::<Vec<_>>());
+        }
+    }
+}
+
+/// One held entry, or the total, made different.
+fn damage(random: &mut Random, planes: &mut GuardedPlanes, settings: &mut Settings) {
+    let v = random.between(0, 1);
+    let bytes = match random.between(0, 6) {
+        0 => return settings.total = settings.total.wrapping_add(random.next()),
+        1 => {
+            let limits = planes.limits[v].entries_mut();
+            let at = random.between(0, limits.len() - 1);
+            return limits[at] ^= 1 << random.between(0, 15);
+        }
+        2 => &mut planes.samples[v],
+        3 => &mut planes.fronts[v],
+        4 => &mut planes.combined,
+        _ => &mut planes.marks[v],
+    };
+    let bytes = bytes.entries_mut();
+    let at = random.between(0, bytes.len() - 1);
+    bytes[at] ^= 1 << random.between(0, 7);
+}
+
+/// Shares and tolerances take all their values in turn.
+#[test]
+fn random_sessions() {
+    random::sessions("sessions", 6000, |random, number| {
+        let scene = Scene::new(random, (number % 65) as u8, (number % 256) as u8);
+        let calls = if scene.reference.len() < 2000 { random.between(2, 16) } else { 3 };
+        let mut run = Run::open(random, scene);
+        run.rendered(random);
+        for _ in 0..calls {
+            run.call(random);
+        }
+        run.rendered(random);
+        run.damaged(random);
+    });
+}
