@@ -127,8 +127,8 @@ uint32_t luph_raw_render(luph_settings settings, uint32_t view, LUPH_RAW_IN(text
     LUPH_RAW_OUT(samples), LUPH_RAW_OUT(marks), LUPH_RAW_OUT(fronts));
 uint32_t luph_raw_open(luph_settings settings, LUPH_RAW_PICTURES, LUPH_RAW_DEPTHS(LUPH_RAW_IN),
     LUPH_RAW_HELD(LUPH_RAW_OUT, LUPH_RAW_OUT_LIMITS), uint64_t *total);
-uint32_t luph_raw_get(luph_settings settings, LUPH_RAW_PICTURES, LUPH_RAW_DEPTHS(LUPH_RAW_IN),
-    LUPH_RAW_HELD(LUPH_RAW_IN, LUPH_RAW_IN_LIMITS), uint32_t view, luph_block block, LUPH_RAW_IN(candidate), int64_t *change);
+uint32_t luph_raw_get(uint32_t w, uint32_t h, const uint16_t *left, const uint16_t *right, uint8_t share, uint8_t tolerance,
+    uint64_t total, LUPH_RAW_PICTURES, LUPH_RAW_DEPTHS(LUPH_RAW_IN), LUPH_RAW_HELD(LUPH_RAW_IN, LUPH_RAW_IN_LIMITS), uint32_t view, luph_block block, LUPH_RAW_IN(candidate), int64_t *change);
 uint32_t luph_raw_set(luph_settings settings, LUPH_RAW_PICTURES, LUPH_RAW_DEPTHS(LUPH_RAW_OUT),
     LUPH_RAW_HELD(LUPH_RAW_OUT, LUPH_RAW_OUT_LIMITS), uint32_t view, luph_block block, LUPH_RAW_IN(candidate), int64_t *change,
     uint64_t *total);
@@ -246,7 +246,8 @@ static inline int luph_get(const luph_settings *s, const luph_pictures *p, const
     const luph_planes planes = luph_private_planes(q);
     const luph_in depths = luph_private_in(candidate);
     int64_t found = 0;
-    const uint32_t number = luph_raw_get(*s, LUPH_RAW_ALL(pictures, planes), view, b, LUPH_RAW_SLICE(depths), &found);
+    const uint32_t number = luph_raw_get(s->w, s->h, s->left, s->right, s->share, s->tolerance, s->total,
+        LUPH_RAW_ALL(pictures, planes), view, b, LUPH_RAW_SLICE(depths), &found);
     if (number == 0) *change = found;
     return (int)number;
 }

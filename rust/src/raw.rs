@@ -1,6 +1,7 @@
 //! The symbols of the static library, and safe functions over them. All unsafe code of the crate is here.
 //!
-//! The library takes a slice as a pointer and then a length, and `Settings` and `Block` by value. It answers the
+//! The library takes a slice as a pointer and then a length, and `Settings` and `Block` by value; GET, the hot call,
+//! takes the settings field by field and the tables, of 256 entries each, by a pointer. It answers the
 //! refusal's number, 0 where the call is accepted. It is proved for every length and every content, so that what is
 //! left to show for each call below is that the pointers are of slices that live through the call and that a slice
 //! lent for writing overlaps no other. Both follow from the borrows.
@@ -27,7 +28,7 @@ extern "C" {
         total: *mut u64,
     ) -> u32;
     fn luph_raw_get(
-        settings: Settings,
+        w: u32, h: u32, left: *const u16, right: *const u16, share: u8, tolerance: u8, total: u64,
         left_texture: *const u8, left_texture_len: usize, right_texture: *const u8, right_texture_len: usize,
         reference: *const u8, reference_len: usize,
         left_depths: *const u8, left_depths_len: usize, right_depths: *const u8, right_depths_len: usize,
@@ -131,7 +132,8 @@ pub fn get(
     // SAFETY: see above.
     let number = unsafe {
         luph_raw_get(
-            *settings, lt.as_ptr(), lt.len(), rt.as_ptr(), rt.len(), reference.as_ptr(), reference.len(),
+            settings.w, settings.h, settings.left.as_ptr(), settings.right.as_ptr(), settings.share, settings.tolerance,
+            settings.total, lt.as_ptr(), lt.len(), rt.as_ptr(), rt.len(), reference.as_ptr(), reference.len(),
             ld.as_ptr(), ld.len(), rd.as_ptr(), rd.len(),
             ls.as_ptr(), ls.len(), lf.as_ptr(), lf.len(), ll.as_ptr(), ll.len(), lm.as_ptr(), lm.len(),
             rs.as_ptr(), rs.len(), rf.as_ptr(), rf.len(), rl.as_ptr(), rl.len(), rm.as_ptr(), rm.len(),

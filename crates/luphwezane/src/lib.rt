@@ -6,6 +6,7 @@ use model::Report;
 use model::Settings;
 ghost use Rattle.model.specs.Planes as planes;
 ghost use Rattle.model.specs.Promises.{RenderPost, OpenPost, GetPost, SetPost, CheckPost, HolesPost};
+ghost use Rattle.decide.specs.Decided.{settingsOf};
 ghost use Rattle.luphwezane.specs.Exports.{Rendered, OpenedOut, TriedOut, EditedOut, ReportOut, CountOut};
 
 // RENDER.
@@ -77,10 +78,16 @@ pub extern "C" fn luph_raw_open(
     number
 }
 
-// GET; the change of the total goes to `change`.
+// GET; the change of the total goes to `change`. The settings come field by field, the tables lent: GET is the hot call, and a copy of the tables would cost it.
 #[no_mangle]
-pub extern "C" fn luph_raw_get(
-    settings: Settings,
+pub extern "C" fn luph_raw_get<'a>(
+    w: u32,
+    h: u32,
+    leftTable: &'a [u16; 256],
+    rightTable: &'a [u16; 256],
+    share: u8,
+    tolerance: u8,
+    total: u64,
     left: &[u8],
     right: &[u8],
     reference: &[u8],
@@ -100,11 +107,17 @@ pub extern "C" fn luph_raw_get(
     candidate: &[u8],
     change: &mut i64,
 ) -> u32
-    ensures { λ r. ⌜ TriedOut (GetPost settings (planes.pictures (now (left .entry)) (now (right .entry)) (now (reference .entry))) (planes.depths (now (leftDepths .entry)) (now (rightDepths .entry)))
+    ensures { λ r. ⌜ TriedOut (GetPost (settingsOf w h (now (leftTable .entry)) (now (rightTable .entry)) share tolerance total) (planes.pictures (now (left .entry)) (now (right .entry)) (now (reference .entry))) (planes.depths (now (leftDepths .entry)) (now (rightDepths .entry)))
         (planes.held (planes.view (now (leftSamples .entry)) (now (leftFronts .entry)) (now (leftLimits .entry)) (now (leftMarks .entry))) (planes.view (now (rightSamples .entry)) (now (rightFronts .entry)) (now (rightLimits .entry)) (now (rightMarks .entry))) (now (combined .entry))) view block (now (candidate .entry))) r (now (change .entry)) (now (change .exit)) ⌝ }
 {
-    let tried = get::get(
-        settings,
+    let tried = decide::decide(
+        w,
+        h,
+        leftTable,
+        rightTable,
+        share,
+        tolerance,
+        total,
         left,
         right,
         reference,

@@ -1,0 +1,1005 @@
+// The session of document 01, its cases without a star, and every refusal alone and before the next: each line says what the entries answered.
+use model::Block;
+use model::Count;
+use model::Edited;
+use model::Refusal;
+use model::Report;
+use model::Settings;
+ghost use mathlib.Core.Path.{_≡_};
+ghost use lib.ListN.{length};
+
+// One turn of a session: GET, then SET where `write` says so, of a block of `view` and a candidate of `count` entries of `depth`.
+// The change is the one expected. Where `hand` says so, the total is first set to `total` by hand; where `spoil` does, a held sample is changed after SET.
+struct Turn {
+    view: u32,
+    block: Block,
+    depth: u8,
+    count: usize,
+    change: i64,
+    write: bool,
+    hand: bool,
+    total: u64,
+    spoil: bool,
+}
+
+// Prints a text.
+fn say(text: &[u8]) {
+    io::write_all(1, text);
+}
+
+// Prints a word and a number.
+fn say_number(word: &[u8], n: u64) {
+    io::write_all(1, word);
+    io::print_decimal(1, n);
+}
+
+// Prints the number of a refusal, and of an accepted call whether its change is the one expected.
+fn say_change(word: &[u8], refusal: Refusal, change: i64, expected: i64) {
+    let n = model::number(refusal);
+    say_number(word, n as u64);
+    if n != 0 {
+        return;
+    }
+    if change == expected {
+        say(b" ok");
+    } else {
+        say(b" wrong");
+    }
+}
+
+// Prints the entries of a row.
+fn say_entries(word: &[u8], entries: &[u8]) {
+    say(word);
+    let mut i = 0;
+    while i < entries.len() {
+        say_number(b" ", entries[i] as u64);
+        i += 1;
+    }
+}
+
+// The table whose entry d is d, but for its last entry.
+fn table(last: u16) -> [u16; 256]
+    ensures { λ r. ⌜ 256 ≡ length r ⌝ }
+{
+    let mut entries = [last; 256];
+    let mut d: u16 = 0;
+    while d < 255 {
+        entries[d as usize] = d;
+        d += 1;
+    }
+    entries
+}
+
+// Settings with these last entries of the tables, a tolerance of 255 and a total that OPEN ignores.
+fn settings(w: u32, h: u32, leftLast: u16, rightLast: u16, share: u8) -> Settings {
+    let left = table(leftLast);
+    let right = table(rightLast);
+    Settings {
+        w: w,
+        h: h,
+        left: left,
+        right: right,
+        share: share,
+        tolerance: 255,
+        total: 7,
+    }
+}
+
+// The block of one position.
+fn one(column: u32, row: u32) -> Block {
+    Block {
+        column: column,
+        row: row,
+        width: 1,
+        height: 1,
+    }
+}
+
+// A turn that tries a candidate, and writes it or not.
+fn request(view: u32, block: Block, depth: u8, change: i64, write: bool) -> Turn {
+    Turn {
+        view: view,
+        block: block,
+        depth: depth,
+        count: 1,
+        change: change,
+        write: write,
+        hand: false,
+        total: 0,
+        spoil: false,
+    }
+}
+
+// GET of a depth for a column of the left view.
+fn tries(column: u32, depth: u8, change: i64) -> Turn {
+    let block = one(column, 0);
+    request(0, block, depth, change, false)
+}
+
+// GET and SET of a depth for a column of a view.
+fn writes(view: u32, column: u32, depth: u8, change: i64) -> Turn {
+    let block = one(column, 0);
+    request(view, block, depth, change, true)
+}
+
+// GET and SET with a block of any size and a candidate of any length.
+fn any(view: u32, width: u32, height: u32, count: usize) -> Turn {
+    let block = Block {
+        column: 2,
+        row: 0,
+        width: width,
+        height: height,
+    };
+    let mut next = request(view, block, 0, 0, true);
+    next.count = count;
+    next
+}
+
+// The same turn with a total set by hand.
+fn by_hand(given: Turn, total: u64) -> Turn {
+    let mut next = given;
+    next.hand = true;
+    next.total = total;
+    next
+}
+
+// The same turn with a held sample changed by hand at its end.
+fn spoiled(given: Turn) -> Turn {
+    let mut next = given;
+    next.spoil = true;
+    next
+}
+
+// The turns of the session, from 0 on: k, l and m, then 8 and 7 before 8, holes of either view, the highest total, and CHECK's reports.
+fn session_turn(i: usize) -> Turn {
+    match i {
+        0 => tries(2, 4, 125),
+        1 => tries(2, 5, 100),
+        2 => writes(0, 2, 4, 125),
+        3 => tries(2, 5, -25),
+        4 => writes(0, 2, 0, -125),
+        5 => writes(0, 2, 4, 125),
+        6 => by_hand(writes(0, 2, 0, -125), 0),
+        7 => by_hand(any(0, 1, 1, 2), 0),
+        8 => by_hand(writes(0, 2, 5, -25), 125),
+        9 => writes(0, 2, 0, -100),
+        10 => writes(1, 1, 5, 0),
+        11 => writes(1, 1, 0, 0),
+        12 => by_hand(tries(0, 0, 0), 260100),
+        13 => by_hand(writes(0, 0, 0, 0), 260101),
+        _ => spoiled(by_hand(tries(0, 0, 0), 1)),
+    }
+}
+
+// The turns of the other cases, from 20 on; an earlier one is the session's.
+fn turn_of(i: usize) -> Turn {
+    match i {
+        20 => writes(0, 2, 4, 0),
+        21 => writes(0, 2, 255, 0),
+        22 => writes(1, 1, 255, 0),
+        23 => writes(0, 4095, 4, 0),
+        24 => request(0, one(0, 4095), 4, 0, true),
+        25 => writes(2, 2, 4, 0),
+        26 => any(0, 0, 1, 0),
+        27 => any(0, 1, 0, 0),
+        28 => any(0, 3, 1, 3),
+        29 => any(1, 1, 2, 2),
+        30 => any(0, 2, 1, 1),
+        31 => any(1, 2, 1, 3),
+        32 => any(1, 2, 1, 2),
+        33 => any(2, 0, 1, 1),
+        34 => any(0, 0, 1, 1),
+        _ => session_turn(i),
+    }
+}
+
+// Changes an entry of a plane by hand.
+fn spoil(yes: bool, plane: &mut [u8]) {
+    if !yes {
+        return;
+    }
+    if 1 < plane.len() {
+        plane[1] = 99;
+    }
+}
+
+// OPEN, with what it answered.
+fn opened(
+    given: Settings,
+    texture: &[u8],
+    reference: &[u8],
+    leftDepths: &[u8],
+    rightDepths: &[u8],
+    leftSamples: &mut [u8],
+    leftFronts: &mut [u8],
+    leftLimits: &mut [i16],
+    leftMarks: &mut [u8],
+    rightSamples: &mut [u8],
+    rightFronts: &mut [u8],
+    rightLimits: &mut [i16],
+    rightMarks: &mut [u8],
+    combined: &mut [u8],
+) -> Settings {
+    let answer = open::open(
+        given,
+        texture,
+        texture,
+        reference,
+        leftDepths,
+        rightDepths,
+        leftSamples,
+        leftFronts,
+        leftLimits,
+        leftMarks,
+        rightSamples,
+        rightFronts,
+        rightLimits,
+        rightMarks,
+        combined,
+    );
+    let refusal = answer.refusal;
+    let next = answer.settings;
+    say_number(b": open ", model::number(refusal) as u64);
+    say_number(b" total ", next.total);
+    say(b"\n");
+    next
+}
+
+// GET, with what it answered.
+fn tried(
+    given: Settings,
+    turn: Turn,
+    texture: &[u8],
+    reference: &[u8],
+    leftDepths: &[u8],
+    rightDepths: &[u8],
+    leftSamples: &[u8],
+    leftFronts: &[u8],
+    leftLimits: &[i16],
+    leftMarks: &[u8],
+    rightSamples: &[u8],
+    rightFronts: &[u8],
+    rightLimits: &[i16],
+    rightMarks: &[u8],
+    combined: &[u8],
+    candidate: &[u8],
+) {
+    let block = turn.block;
+    let answer = get::get(
+        given,
+        texture,
+        texture,
+        reference,
+        leftDepths,
+        rightDepths,
+        leftSamples,
+        leftFronts,
+        leftLimits,
+        leftMarks,
+        rightSamples,
+        rightFronts,
+        rightLimits,
+        rightMarks,
+        combined,
+        turn.view,
+        block,
+        candidate,
+    );
+    let refusal = answer.refusal;
+    let change = answer.change;
+    say_change(b" get ", refusal, change, turn.change);
+}
+
+// Prints what SET answered.
+fn say_edited(answer: Edited, expected: i64) -> Settings {
+    let refusal = answer.refusal;
+    let change = answer.change;
+    let next = answer.settings;
+    say_change(b" set ", refusal, change, expected);
+    say_number(b" total ", next.total);
+    next
+}
+
+// SET where the turn writes, with what it answered.
+fn written(
+    given: Settings,
+    turn: Turn,
+    texture: &[u8],
+    reference: &[u8],
+    leftDepths: &mut [u8],
+    rightDepths: &mut [u8],
+    leftSamples: &mut [u8],
+    leftFronts: &mut [u8],
+    leftLimits: &mut [i16],
+    leftMarks: &mut [u8],
+    rightSamples: &mut [u8],
+    rightFronts: &mut [u8],
+    rightLimits: &mut [i16],
+    rightMarks: &mut [u8],
+    combined: &mut [u8],
+    candidate: &[u8],
+) -> Settings {
+    if !turn.write {
+        return given;
+    }
+    let block = turn.block;
+    let answer = set::set(
+        given,
+        texture,
+        texture,
+        reference,
+        leftDepths,
+        rightDepths,
+        leftSamples,
+        leftFronts,
+        leftLimits,
+        leftMarks,
+        rightSamples,
+        rightFronts,
+        rightLimits,
+        rightMarks,
+        combined,
+        turn.view,
+        block,
+        candidate,
+    );
+    say_edited(answer, turn.change)
+}
+
+// CHECK, with what it answered.
+fn checked(
+    given: Settings,
+    texture: &[u8],
+    reference: &[u8],
+    leftDepths: &[u8],
+    rightDepths: &[u8],
+    leftSamples: &[u8],
+    leftFronts: &[u8],
+    leftLimits: &[i16],
+    leftMarks: &[u8],
+    rightSamples: &[u8],
+    rightFronts: &[u8],
+    rightLimits: &[i16],
+    rightMarks: &[u8],
+    combined: &[u8],
+) {
+    let report = checks::check(
+        given,
+        texture,
+        texture,
+        reference,
+        leftDepths,
+        rightDepths,
+        leftSamples,
+        leftFronts,
+        leftLimits,
+        leftMarks,
+        rightSamples,
+        rightFronts,
+        rightLimits,
+        rightMarks,
+        combined,
+    );
+    match report {
+        Report::Refused(refusal) => {
+            say_number(b" check ", model::number(refusal) as u64);
+        }
+        Report::Sound => say(b" check sound"),
+        Report::Difference { row, column } => {
+            say_number(b" check row ", row as u64);
+            say_number(b" column ", column as u64);
+        }
+        Report::Total => say(b" check total"),
+    }
+}
+
+// HOLES, with what it answered.
+fn counted(given: Settings, view: u32, left: &[u8], right: &[u8]) {
+    let answer = holes::holes(given, view, left, right);
+    match answer {
+        Count::Refused(refusal) => {
+            say_number(b" holes refused ", model::number(refusal) as u64);
+        }
+        Count::Holes(count) => {
+            say_number(b" holes ", count);
+        }
+    }
+}
+
+// Prints what a turn asks for.
+fn say_turn(turn: Turn) {
+    let block = turn.block;
+    say_number(b"  view ", turn.view as u64);
+    say_number(b" block ", block.column as u64);
+    say_number(b" ", block.row as u64);
+    say_number(b" ", block.width as u64);
+    say_number(b" ", block.height as u64);
+    say_number(b" depth ", turn.depth as u64);
+    say_number(b" count ", turn.count as u64);
+    if turn.hand {
+        say_number(b" by hand ", turn.total);
+    }
+    say(b":");
+}
+
+// The settings that a turn passes on.
+fn passed(given: Settings, turn: Turn) -> Settings {
+    if !turn.hand {
+        return given;
+    }
+    let mut next = given;
+    next.total = turn.total;
+    next
+}
+
+// GET and SET of a turn.
+fn edited(
+    given: Settings,
+    turn: Turn,
+    texture: &[u8],
+    reference: &[u8],
+    leftDepths: &mut [u8],
+    rightDepths: &mut [u8],
+    leftSamples: &mut [u8],
+    leftFronts: &mut [u8],
+    leftLimits: &mut [i16],
+    leftMarks: &mut [u8],
+    rightSamples: &mut [u8],
+    rightFronts: &mut [u8],
+    rightLimits: &mut [i16],
+    rightMarks: &mut [u8],
+    combined: &mut [u8],
+    candidate: &[u8],
+) -> Settings {
+    tried(
+        given,
+        turn,
+        texture,
+        reference,
+        leftDepths,
+        rightDepths,
+        leftSamples,
+        leftFronts,
+        leftLimits,
+        leftMarks,
+        rightSamples,
+        rightFronts,
+        rightLimits,
+        rightMarks,
+        combined,
+        candidate,
+    );
+    written(
+        given,
+        turn,
+        texture,
+        reference,
+        leftDepths,
+        rightDepths,
+        leftSamples,
+        leftFronts,
+        leftLimits,
+        leftMarks,
+        rightSamples,
+        rightFronts,
+        rightLimits,
+        rightMarks,
+        combined,
+        candidate,
+    )
+}
+
+// A candidate of a turn: four entries of one depth.
+fn entries(depth: u8) -> [u8; 4]
+    ensures { λ r. ⌜ 4 ≡ length r ⌝ }
+{
+    [depth; 4]
+}
+
+// GET and SET of a turn with its candidate, of at most four entries.
+fn took(
+    given: Settings,
+    turn: Turn,
+    texture: &[u8],
+    reference: &[u8],
+    leftDepths: &mut [u8],
+    rightDepths: &mut [u8],
+    leftSamples: &mut [u8],
+    leftFronts: &mut [u8],
+    leftLimits: &mut [i16],
+    leftMarks: &mut [u8],
+    rightSamples: &mut [u8],
+    rightFronts: &mut [u8],
+    rightLimits: &mut [i16],
+    rightMarks: &mut [u8],
+    combined: &mut [u8],
+) -> Settings {
+    let room = entries(turn.depth);
+    let count = turn.count;
+    if 4 < count {
+        return given;
+    }
+    edited(
+        given,
+        turn,
+        texture,
+        reference,
+        leftDepths,
+        rightDepths,
+        leftSamples,
+        leftFronts,
+        leftLimits,
+        leftMarks,
+        rightSamples,
+        rightFronts,
+        rightLimits,
+        rightMarks,
+        combined,
+        &room[..count],
+    )
+}
+
+// GET and SET of a turn, with what is done by hand before and after.
+fn moved(
+    given: Settings,
+    turn: Turn,
+    texture: &[u8],
+    reference: &[u8],
+    leftDepths: &mut [u8],
+    rightDepths: &mut [u8],
+    leftSamples: &mut [u8],
+    leftFronts: &mut [u8],
+    leftLimits: &mut [i16],
+    leftMarks: &mut [u8],
+    rightSamples: &mut [u8],
+    rightFronts: &mut [u8],
+    rightLimits: &mut [i16],
+    rightMarks: &mut [u8],
+    combined: &mut [u8],
+) -> Settings {
+    say_turn(turn);
+    let next = took(
+        passed(given, turn),
+        turn,
+        texture,
+        reference,
+        leftDepths,
+        rightDepths,
+        leftSamples,
+        leftFronts,
+        leftLimits,
+        leftMarks,
+        rightSamples,
+        rightFronts,
+        rightLimits,
+        rightMarks,
+        combined,
+    );
+    spoil(turn.spoil, leftSamples);
+    next
+}
+
+// CHECK and HOLES after a turn.
+fn reported(
+    given: Settings,
+    view: u32,
+    texture: &[u8],
+    reference: &[u8],
+    leftDepths: &[u8],
+    rightDepths: &[u8],
+    leftSamples: &[u8],
+    leftFronts: &[u8],
+    leftLimits: &[i16],
+    leftMarks: &[u8],
+    rightSamples: &[u8],
+    rightFronts: &[u8],
+    rightLimits: &[i16],
+    rightMarks: &[u8],
+    combined: &[u8],
+) {
+    checked(
+        given,
+        texture,
+        reference,
+        leftDepths,
+        rightDepths,
+        leftSamples,
+        leftFronts,
+        leftLimits,
+        leftMarks,
+        rightSamples,
+        rightFronts,
+        rightLimits,
+        rightMarks,
+        combined,
+    );
+    counted(given, view, leftMarks, rightMarks);
+    say(b"\n");
+}
+
+// A whole turn.
+fn played(
+    given: Settings,
+    turn: Turn,
+    texture: &[u8],
+    reference: &[u8],
+    leftDepths: &mut [u8],
+    rightDepths: &mut [u8],
+    leftSamples: &mut [u8],
+    leftFronts: &mut [u8],
+    leftLimits: &mut [i16],
+    leftMarks: &mut [u8],
+    rightSamples: &mut [u8],
+    rightFronts: &mut [u8],
+    rightLimits: &mut [i16],
+    rightMarks: &mut [u8],
+    combined: &mut [u8],
+) -> Settings {
+    let next = moved(
+        given,
+        turn,
+        texture,
+        reference,
+        leftDepths,
+        rightDepths,
+        leftSamples,
+        leftFronts,
+        leftLimits,
+        leftMarks,
+        rightSamples,
+        rightFronts,
+        rightLimits,
+        rightMarks,
+        combined,
+    );
+    reported(
+        next,
+        turn.view,
+        texture,
+        reference,
+        leftDepths,
+        rightDepths,
+        leftSamples,
+        leftFronts,
+        leftLimits,
+        leftMarks,
+        rightSamples,
+        rightFronts,
+        rightLimits,
+        rightMarks,
+        combined,
+    );
+    next
+}
+
+// OPEN, and the turns from one on up to another.
+fn play(
+    given: Settings,
+    start: usize,
+    end: usize,
+    texture: &[u8],
+    reference: &[u8],
+    leftDepths: &mut [u8],
+    rightDepths: &mut [u8],
+    leftSamples: &mut [u8],
+    leftFronts: &mut [u8],
+    leftLimits: &mut [i16],
+    leftMarks: &mut [u8],
+    rightSamples: &mut [u8],
+    rightFronts: &mut [u8],
+    rightLimits: &mut [i16],
+    rightMarks: &mut [u8],
+    combined: &mut [u8],
+) {
+    let mut now = opened(
+        given,
+        texture,
+        reference,
+        leftDepths,
+        rightDepths,
+        leftSamples,
+        leftFronts,
+        leftLimits,
+        leftMarks,
+        rightSamples,
+        rightFronts,
+        rightLimits,
+        rightMarks,
+        combined,
+    );
+    let mut i = start;
+    while i < end {
+        let turn = turn_of(i);
+        now = played(
+            now,
+            turn,
+            texture,
+            reference,
+            leftDepths,
+            rightDepths,
+            leftSamples,
+            leftFronts,
+            leftLimits,
+            leftMarks,
+            rightSamples,
+            rightFronts,
+            rightLimits,
+            rightMarks,
+            combined,
+        );
+        i += 1;
+    }
+}
+
+// A session of planes of four entries, with both textures and the reference of document 01 and depths of 0.
+fn small(title: &[u8], given: Settings, start: usize, end: usize) {
+    let texture = [10u8, 20, 30, 40];
+    let mut leftDepths = [0u8; 4];
+    let mut rightDepths = [0u8; 4];
+    let mut leftSamples = [0u8; 4];
+    let mut leftFronts = [0u8; 4];
+    let mut leftLimits = [0i16; 4];
+    let mut leftMarks = [0u8; 1];
+    let mut rightSamples = [0u8; 4];
+    let mut rightFronts = [0u8; 4];
+    let mut rightLimits = [0i16; 4];
+    let mut rightMarks = [0u8; 1];
+    let mut combined = [0u8; 4];
+    say(title);
+    play(
+        given,
+        start,
+        end,
+        &texture,
+        &texture,
+        &mut leftDepths,
+        &mut rightDepths,
+        &mut leftSamples,
+        &mut leftFronts,
+        &mut leftLimits,
+        &mut leftMarks,
+        &mut rightSamples,
+        &mut rightFronts,
+        &mut rightLimits,
+        &mut rightMarks,
+        &mut combined,
+    );
+}
+
+// A plane of 4,096 entries.
+fn plane(entry: u8) -> [u8; 4096]
+    ensures { λ r. ⌜ 4096 ≡ length r ⌝ }
+{
+    [entry; 4096]
+}
+
+// The limits of 4,096 columns.
+fn limits() -> [i16; 4096]
+    ensures { λ r. ⌜ 4096 ≡ length r ⌝ }
+{
+    [0; 4096]
+}
+
+// The marks of a row of 4,096 positions.
+fn marks() -> [u8; 512]
+    ensures { λ r. ⌜ 512 ≡ length r ⌝ }
+{
+    [0; 512]
+}
+
+// A session of one row of 4,096 columns, with both textures 255 and the reference 0.
+fn wide(title: &[u8], given: Settings, start: usize, end: usize) {
+    let texture = plane(255);
+    let reference = plane(0);
+    let mut leftDepths = plane(0);
+    let mut rightDepths = plane(0);
+    let mut leftSamples = plane(0);
+    let mut leftFronts = plane(0);
+    let mut leftLimits = limits();
+    let mut leftMarks = marks();
+    let mut rightSamples = plane(0);
+    let mut rightFronts = plane(0);
+    let mut rightLimits = limits();
+    let mut rightMarks = marks();
+    let mut combined = plane(0);
+    say(title);
+    play(
+        given,
+        start,
+        end,
+        &texture,
+        &reference,
+        &mut leftDepths,
+        &mut rightDepths,
+        &mut leftSamples,
+        &mut leftFronts,
+        &mut leftLimits,
+        &mut leftMarks,
+        &mut rightSamples,
+        &mut rightFronts,
+        &mut rightLimits,
+        &mut rightMarks,
+        &mut combined,
+    );
+}
+
+// A session of 4,096 rows of one column, with both textures 255 and the reference 0.
+fn tall(title: &[u8], given: Settings, start: usize, end: usize) {
+    let texture = plane(255);
+    let reference = plane(0);
+    let mut leftDepths = plane(0);
+    let mut rightDepths = plane(0);
+    let mut leftSamples = plane(0);
+    let mut leftFronts = plane(0);
+    let mut leftLimits = limits();
+    let mut leftMarks = plane(0);
+    let mut rightSamples = plane(0);
+    let mut rightFronts = plane(0);
+    let mut rightLimits = limits();
+    let mut rightMarks = plane(0);
+    let mut combined = plane(0);
+    say(title);
+    play(
+        given,
+        start,
+        end,
+        &texture,
+        &reference,
+        &mut leftDepths,
+        &mut rightDepths,
+        &mut leftSamples,
+        &mut leftFronts,
+        &mut leftLimits,
+        &mut leftMarks,
+        &mut rightSamples,
+        &mut rightFronts,
+        &mut rightLimits,
+        &mut rightMarks,
+        &mut combined,
+    );
+}
+
+// RENDER, with what it answered.
+fn drawn(
+    given: Settings,
+    view: u32,
+    texture: &[u8],
+    depths: &[u8],
+    samples: &mut [u8],
+    marks: &mut [u8],
+    fronts: &mut [u8],
+) {
+    let refusal = render::render(given, view, texture, depths, samples, marks, fronts);
+    say_number(b": render ", model::number(refusal) as u64);
+}
+
+// RENDER of a row of four, with what it drew.
+fn strip(title: &[u8], given: Settings, view: u32, depths: &[u8]) {
+    let texture = [10u8, 20, 30, 40];
+    let mut samples = [0u8; 4];
+    let mut marks = [0u8; 1];
+    let mut fronts = [0u8; 4];
+    say(title);
+    drawn(
+        given,
+        view,
+        &texture,
+        depths,
+        &mut samples,
+        &mut marks,
+        &mut fronts,
+    );
+    say_entries(b" samples", &samples);
+    say_entries(b" marks", &marks);
+    say_entries(b" fronts", &fronts);
+    say(b"\n");
+}
+
+// RENDER of a row of 4,096.
+fn wide_strip(title: &[u8], given: Settings, view: u32) {
+    let texture = plane(255);
+    let depths = plane(0);
+    let mut samples = plane(0);
+    let mut bits = marks();
+    let mut fronts = plane(0);
+    say(title);
+    drawn(
+        given,
+        view,
+        &texture,
+        &depths,
+        &mut samples,
+        &mut bits,
+        &mut fronts,
+    );
+    say(b"\n");
+}
+
+// The session, and what is taken at the edge of what a session may be.
+fn run_taken() {
+    small(b"session", settings(4, 1, 255, 255, 0), 0, 15);
+    wide(b"w 4096", settings(4096, 1, 255, 255, 0), 23, 24);
+    tall(b"h 4096", settings(1, 4096, 255, 255, 0), 24, 25);
+    small(b"share 64", settings(4, 1, 255, 255, 64), 20, 21);
+    small(b"left entry 1023", settings(4, 1, 1023, 255, 0), 21, 22);
+    small(b"right entry 1023", settings(4, 1, 255, 1023, 0), 22, 23);
+}
+
+// What every entry of a session refuses.
+fn run_refused() {
+    small(b"w 0", settings(0, 1, 255, 255, 0), 20, 21);
+    small(b"h 0", settings(4, 0, 255, 255, 0), 20, 21);
+    wide(b"w 4097", settings(4097, 1, 255, 255, 0), 20, 21);
+    tall(b"h 4097", settings(1, 4097, 255, 255, 0), 20, 21);
+    small(b"planes", settings(9, 1, 255, 255, 0), 20, 21);
+    small(b"left entry 1024", settings(4, 1, 1024, 255, 0), 20, 21);
+    small(b"right entry 1024", settings(4, 1, 255, 1024, 0), 20, 21);
+    small(b"share 65", settings(4, 1, 255, 255, 65), 20, 21);
+    small(
+        b"view, block and candidate",
+        settings(4, 1, 255, 255, 0),
+        25,
+        33,
+    );
+}
+
+// Two conditions at once.
+fn run_order() {
+    small(b"1 before 2", settings(0, 1, 1024, 255, 65), 33, 34);
+    small(b"2 before 3", settings(9, 1, 1024, 255, 65), 33, 34);
+    small(b"3 before 4", settings(4, 1, 255, 1024, 65), 33, 34);
+    small(b"4 before 6", settings(4, 1, 255, 255, 65), 33, 34);
+    small(
+        b"6 before 5, 5 before 7",
+        settings(4, 1, 255, 255, 0),
+        33,
+        35,
+    );
+}
+
+// RENDER of two rows, what it takes and what it refuses.
+fn run_strips() {
+    let torn = [0u8, 0, 5, 0];
+    let near = [2u8, 2, 2, 2];
+    strip(b"row g", settings(4, 1, 255, 255, 0), 0, &torn);
+    strip(b"row e", settings(4, 1, 255, 255, 0), 1, &near);
+    wide_strip(b"row w 4096", settings(4096, 1, 255, 255, 0), 1);
+    strip(
+        b"row h 0, share 65",
+        settings(4, 0, 255, 1023, 65),
+        0,
+        &near,
+    );
+    strip(b"row w 0", settings(0, 1, 255, 255, 0), 0, &near);
+    wide_strip(b"row w 4097", settings(4097, 1, 255, 255, 0), 0);
+    strip(b"row planes", settings(5, 1, 255, 255, 0), 0, &near);
+    strip(
+        b"row left entry 1024",
+        settings(4, 1, 1024, 255, 0),
+        1,
+        &near,
+    );
+    strip(
+        b"row right entry 1024",
+        settings(4, 1, 255, 1024, 0),
+        0,
+        &near,
+    );
+    strip(b"row view 2", settings(4, 1, 255, 255, 0), 2, &near);
+}
+
+// RENDER of a row with two conditions at once.
+fn run_strip_order() {
+    let near = [2u8, 2, 2, 2];
+    strip(b"row 1 before 2", settings(0, 1, 1024, 255, 0), 2, &near);
+    strip(b"row 2 before 3", settings(5, 1, 1024, 255, 0), 2, &near);
+    strip(b"row 3 before 6", settings(4, 1, 1024, 255, 0), 2, &near);
+}
+
+fn main() {
+    run_taken();
+    run_refused();
+    run_order();
+    run_strips();
+    run_strip_order();
+}
