@@ -1,9 +1,9 @@
 -- Rows drawn afresh, at the front of longer rows, are rows of the fresh drawing.
---     row-front           the front of a row is its row 0
---     agrees-fresh        a view compared with its drawn row is compared with the fresh view
---     shown-fresh         the combined sample of two drawn rows is the fresh one
---     all-fresh           so the comparison at a position is that of the fresh drawing
---     seen-at, error-is   what is found at a position
+--     drawn-part, part-in     a row lent as planes of one row is drawn as the planes' row
+--     agrees-fresh            a view compared with its drawn row is compared with the fresh view
+--     shown-fresh             the combined sample of two drawn rows is the fresh one
+--     all-fresh               so the comparison at a position is that of the fresh drawing
+--     seen-at, error-is       what is found at a position
 use Prim.Native.Nat.{ℕ, _+_, _-_, _*_, _/_, _%_, _^_, _≤_, _<_}
 use mathlib.Core.Path.{_≡_, sym, ap, _∙_}
 use mathlib.Core.Bool.{Bool, true, false}
@@ -32,7 +32,8 @@ use Rattle.compare.specs.Agree.{agrees, allAgree}
 front-entry : {A : Type 0} (z : A) (l : List A) (w i : ℕ) → i < w → getD (rowOf l w 0) i z ≡ getD l i z
 front-entry z l w i h = getD-row z l w 0 i h ∙ ap (λ (n : ℕ). getD l n z) (omega arith)
 
-pub row-front : {A : Type 0} (l : List A) (w : ℕ) → rowOf l w 0 ≡ take w l
+-- the front of a row is its row 0
+row-front : {A : Type 0} (l : List A) (w : ℕ) → rowOf l w 0 ≡ take w l
 unfolding rowOf
 row-front l w = ap (λ (n : ℕ). take w (drop n l)) (zero-mul w)
 

@@ -33,9 +33,30 @@ abbrev μ-rows : tie.MeasureT-rows
 μ-rows w h leftTable rightTable share tolerance squares left right reference leftDepths rightDepths leftSamples leftFronts leftLimits leftMarks rightSamples rightFronts rightLimits rightMarks combined samples0₀ fronts0₀ limits0₀ marks0₀ samples1₀ fronts1₀ limits1₀ marks1₀ place₀ sum₀ y₀ samples0 fronts0 limits0 marks0 samples1 fronts1 limits1 marks1 place sum y =
     h - y
 
--- what the call is lent
+-- ---- where the walk stands: the entry, a row, a column, a comparison
+
 abbrev Start : Type 0
 Start = tie.Start Inv-loop μ-loop Inv-rows μ-rows
+
+abbrev InRow : Type 0
+InRow = tie.In-rows Inv-loop μ-loop Inv-rows μ-rows
+
+abbrev InColumn : Type 0
+InColumn = tie.In-loop Inv-loop μ-loop Inv-rows μ-rows
+
+abbrev Compared : Type 0
+Compared = tie.After-same-at Inv-loop μ-loop Inv-rows μ-rows
+
+abbrev start-of : InRow → Start
+start-of c = c .before .before .before .before .before .before .before .before .before .before .before .before .before .before
+
+abbrev row-of : InColumn → InRow
+row-of c = c .before .before .before .before .before .before .before .before .before .before .before .before
+
+abbrev column-of : Compared → InColumn
+column-of c = c .before .before .before .before .before .before .before .before .before .before .before .before .before .before .before .before
+
+-- ---- what the call is lent
 
 abbrev settings-of : Start → Settings
 settings-of c = let a = c .args in settingsOf (a .w) (a .h) (a .leftTable .now) (a .rightTable .now) (a .share) (a .tolerance)
@@ -57,132 +78,143 @@ common : (c : Start) → Common (settings-of c) (pictures-of c) (depths-of c) (h
 common c = common-facts (settings-of c) (pictures-of c) (depths-of c) (held-of c) (c .pre .1)
 
 -- row y can be drawn
-row-of : (c : tie.In-rows Inv-loop μ-loop Inv-rows μ-rows) → let s = c .before .before .before .before .before .before .before .before .before .before .before .before .before .before in RowIn (settings-of s) (pictures-of s) (depths-of s) (c .before .rows .y)
-row-of c =
-    let s = c .before .before .before .before .before .before .before .before .before .before .before .before .before .before in
+row-in : (c : InRow) → let s = start-of c in RowIn (settings-of s) (pictures-of s) (depths-of s) (c .before .rows .y)
+row-in c =
+    let s = start-of c in
     row-within (settings-of s) (pictures-of s) (depths-of s) (held-of s) (common s) (c .before .rows .y) (c .rows-test .taken)
 
 -- column x of it can be read
-entry-of : (c : tie.In-loop Inv-loop μ-loop Inv-rows μ-rows) → let s = c .before .before .before .before .before .before .before .before .before .before .before .before .before .before .before .before .before .before .before .before .before .before .before .before .before .before in EntryIn (settings-of s) (pictures-of s) (held-of s) (c .before .before .before .before .before .before .before .before .before .before .before .before .before .rows .y) (c .before .loop .x)
-entry-of c =
-    let s = c .before .before .before .before .before .before .before .before .before .before .before .before .before .before .before .before .before .before .before .before .before .before .before .before .before .before in
-    entry-within (settings-of s) (pictures-of s) (depths-of s) (held-of s) (common s) (c .before .before .before .before .before .before .before .before .before .before .before .before .before .rows .y) (c .before .before .before .before .before .before .before .before .before .before .before .before .rows-test .taken) (c .before .loop .x) (c .loop-test .taken)
+entry-in : (c : InColumn) → let r = row-of c in let s = start-of r in EntryIn (settings-of s) (pictures-of s) (held-of s) (r .before .rows .y) (c .before .loop .x)
+entry-in c =
+    let r = row-of c in
+    let s = start-of r in
+    entry-within (settings-of s) (pictures-of s) (depths-of s) (held-of s) (common s) (r .before .rows .y) (r .rows-test .taken) (c .before .loop .x) (c .loop-test .taken)
 
 -- what the comparison at a position tells
-seen-of : (c : tie.After-same-at Inv-loop μ-loop Inv-rows μ-rows) → let s = c .before .before .before .before .before .before .before .before .before .before .before .before .before .before .before .before .before .before .before .before .before .before .before .before .before .before .before .before .before .before .before .before .before .before .before .before .before .before .before .before .before .before in Seen (settings-of s) (pictures-of s) (depths-of s) (held-of s) (c .before .before .before .before .before .before .before .before .before .before .before .before .before .before .before .before .before .before .before .before .before .before .before .before .before .before .before .before .before .rows .y) (c .before .before .before .before .before .before .before .before .before .before .before .before .before .before .before .before .before .loop .x) (c .before .before .before .before .before .before .before .before .before .shown-at .result) (c .same-at .result)
-seen-of c =
-    let s = c .before .before .before .before .before .before .before .before .before .before .before .before .before .before .before .before .before .before .before .before .before .before .before .before .before .before .before .before .before .before .before .before .before .before .before .before .before .before .before .before .before .before in
-    seen-at (settings-of s) (pictures-of s) (depths-of s) (held-of s) (c .before .before .before .before .before .before .before .before .before .before .before .before .before .before .before .before .before .before .before .before .before .before .before .before .before .before .before .before .before .rows .y) (c .before .before .before .before .before .before .before .before .before .before .before .before .before .before .before .before .before .loop .x) _ _ _ _ (common s .depths)
-    (c .before .before .before .before .before .before .before .before .before .before .before .before .before .before .before .before .before .before .before .before .before .before .before .before .before .before .before .before .rows-test .taken) (c .before .before .before .before .before .before .before .before .before .before .before .before .before .before .before .before .loop-test .taken) (c .before .before .before .before .before .before .before .before .before .before .before .before .before .before .before .before .before .before .before .before .before .before .before .draw-front .ensures) (c .before .before .before .before .before .before .before .before .before .before .before .before .before .before .before .before .before .before .draw-front2 .ensures)
+seen-in : (c : Compared) → let l = column-of c in let r = row-of l in let s = start-of r in Seen (settings-of s) (pictures-of s) (depths-of s) (held-of s) (r .before .rows .y) (l .before .loop .x) (c .before .before .before .before .before .before .before .before .before .shown-at .result) (c .same-at .result)
+seen-in c =
+    let l = column-of c in
+    let r = row-of l in
+    let s = start-of r in
+    seen-at (settings-of s) (pictures-of s) (depths-of s) (held-of s) (r .before .rows .y) (l .before .loop .x) _ _ _ _ (common s .depths)
+    (r .rows-test .taken) (l .loop-test .taken) (l .before .before .before .before .before .before .before .draw-front .ensures) (l .before .before .draw-front2 .ensures)
     (c .before .before .before .before .before .before .before .before .before .shown-at .ensures) (c .same-at .ensures)
 
+-- ---- the needs
+
 rows-holds : tie.Need-rows-holds Inv-loop μ-loop Inv-rows μ-rows
-rows-holds c = let s = c .before .before .before .before .before .before .before .before .before .before .before .before in (omega arith, (refl, passed-none (settings-of s) (pictures-of s) (depths-of s) (held-of s)))
+rows-holds c =
+    let s = c .before .before .before .before .before .before .before .before .before .before .before .before in
+    (omega arith, (refl, passed-none (settings-of s) (pictures-of s) (depths-of s) (held-of s)))
 
 draw-front-requires : tie.Need-draw-front-requires Inv-loop μ-loop Inv-rows μ-rows
 draw-front-requires c κs =
-    let r = row-of (c .before .before .before .before) in
+    let r = row-in (c .before .before .before .before) in
     ((r .left-table, (r .some, r .most)), (r .left-texture, r .left-depths))
 
 draw-front-requires-2 : tie.Need-draw-front-requires-2 Inv-loop μ-loop Inv-rows μ-rows
 draw-front-requires-2 c κs =
-    let r = row-of (c .before .before .before .before .before .before .before .before .before) in
+    let r = row-in (c .before .before .before .before .before .before .before .before .before) in
     ((r .right-table, (r .some, r .most)), (r .right-texture, r .right-depths))
 
 loop-holds : tie.Need-loop-holds Inv-loop μ-loop Inv-rows μ-rows
 loop-holds c = let i = c .before .before .before .before .before .before .before .before .before .before .before .rows .inv in (omega arith, (i .1 .0, i .1 .1))
 
 shown-at-requires : tie.Need-shown-at-requires Inv-loop μ-loop Inv-rows μ-rows
-shown-at-requires c κs = (common (c .before .before .before .before .before .before .before .before .before .before .before .before .before .before .before .before .before .before .before .before .before .before .before .before .before .before .before .before .before .before .before .before) .share, entry-of (c .before .before .before .before .before .before) .near)
+shown-at-requires c κs = let l = c .before .before .before .before .before .before in (common (start-of (row-of l)) .share, entry-in l .near)
 
 same-at-requires : tie.Need-same-at-requires Inv-loop μ-loop Inv-rows μ-rows
 same-at-requires c κs =
-    let e = entry-of (c .before .before .before .before .before .before .before .before .before .before .before .before .before .before .before) in
-    (e .left, (e .right, (e .combined, (c .before .before .before .before .before .before .before .before .before .before .before .before .before .before .before .loop-test .taken, common (c .before .before .before .before .before .before .before .before .before .before .before .before .before .before .before .before .before .before .before .before .before .before .before .before .before .before .before .before .before .before .before .before .before .before .before .before .before .before .before .before .before) .size .w .most))))
+    let l = c .before .before .before .before .before .before .before .before .before .before .before .before .before .before .before in
+    let e = entry-in l in
+    (e .left, (e .right, (e .combined, (l .loop-test .taken, common (start-of (row-of l)) .size .w .most))))
 
 cast-t61 : tie.Need-cast-t61 Inv-loop μ-loop Inv-rows μ-rows
-cast-t61 c = let e = entry-of (c .before .before .before .before .before .before .before .before .before .before .before .before .before .before .before .before .before) in omega (arith, e .low)
+cast-t61 c = omega (arith, entry-in (column-of (c .before)) .low)
 
 cast-t62 : tie.Need-cast-t62 Inv-loop μ-loop Inv-rows μ-rows
-cast-t62 c = let e = entry-of (c .before .before .before .before .before .before .before .before .before .before .before .before .before .before .before .before .before) in omega (arith, e .near)
+cast-t62 c = omega (arith, entry-in (column-of (c .before)) .near)
 
 mul-square-error : tie.Need-mul-square-error Inv-loop μ-loop Inv-rows μ-rows
-mul-square-error c = let e = entry-of (c .before .before .before .before .before .before .before .before .before .before .before .before .before .before .before .before .before) in omega (arith, e .few)
+mul-square-error c = omega (arith, entry-in (column-of (c .before)) .few)
 
 add-square-error : tie.Need-add-square-error Inv-loop μ-loop Inv-rows μ-rows
-add-square-error c = let e = entry-of (c .before .before .before .before .before .before .before .before .before .before .before .before .before .before .before .before .before) in omega (arith, e .few)
+add-square-error c = omega (arith, entry-in (column-of (c .before)) .few)
 
 shared-slice-read-square-error : tie.Need-shared-slice-read-square-error Inv-loop μ-loop Inv-rows μ-rows
-shared-slice-read-square-error c = entry-of (c .before .before .before .before .before .before .before .before .before .before .before .before .before .before .before .before .before .before) .reference
+shared-slice-read-square-error c = entry-in (column-of (c .before .before)) .reference
 
 square-error-requires : tie.Need-square-error-requires Inv-loop μ-loop Inv-rows μ-rows
-square-error-requires c κs = c .before .before .before .before .before .before .before .before .before .before .before .before .before .before .before .before .before .before .before .before .before .before .before .before .before .before .before .before .before .before .before .before .before .before .before .before .before .before .before .before .before .before .before .before .pre .0
+square-error-requires c κs = start-of (row-of (column-of (c .before .before))) .pre .0
 
 cast-sum : tie.Need-cast-sum Inv-loop μ-loop Inv-rows μ-rows
 cast-sum c = omega (arith, c .square-error .ensures .1)
 
 add-sum : tie.Need-add-sum Inv-loop μ-loop Inv-rows μ-rows
 add-sum c =
-    let e = entry-of (c .before .before .before .before .before .before .before .before .before .before .before .before .before .before .before .before .before .before .before) in
-    omega (arith, e .few, c .square-error .ensures .1, c .before .before .before .before .before .before .before .before .before .before .before .before .before .before .before .before .before .before .before .before .loop .inv .1 .1 .most)
+    let l = column-of (c .before .before .before) in
+    omega (arith, entry-in l .few, c .square-error .ensures .1, l .before .loop .inv .1 .1 .most)
 
 add-x : tie.Need-add-x Inv-loop μ-loop Inv-rows μ-rows
-add-x c = let e = entry-of (c .before .before .before .before .before .before .before .before .before .before .before .before .before .before .before .before .before .before .before) in omega (arith, e .near)
+add-x c = omega (arith, entry-in (column-of (c .before .before .before)) .near)
 
 loop-less : tie.Need-loop-less Inv-loop μ-loop Inv-rows μ-rows
-loop-less c = omega (arith, c .before .before .before .before .before .before .before .before .before .before .before .before .before .before .before .before .before .before .before .loop-test .taken)
+loop-less c = omega (arith, column-of (c .before .before .before) .loop-test .taken)
 
 loop-again : tie.Need-loop-again Inv-loop μ-loop Inv-rows μ-rows
 loop-again c =
-    let s = c .before .before .before .before .before .before .before .before .before .before .before .before .before .before .before .before .before .before .before .before .before .before .before .before .before .before .before .before .before .before .before .before .before .before .before .before .before .before .before .before .before .before .before .before .before in
-    let l = c .before .before .before .before .before .before .before .before .before .before .before .before .before .before .before .before .before .before .before .before .loop in
-    let y = c .before .before .before .before .before .before .before .before .before .before .before .before .before .before .before .before .before .before .before .before .before .before .before .before .before .before .before .before .before .before .before .before .rows .y in
-    let at = c .before .before .before in
-    let seen = seen-of at in
-    let lx = c .before .before .before .before .before .before .before .before .before .before .before .before .before .before .before .before .before .before .before .loop-test .taken in (
+    let seen = seen-in (c .before .before .before) in
+    let l = column-of (c .before .before .before) in
+    let r = row-of l in
+    let s = start-of r in
+    let i = l .before .loop in
+    let lx = l .loop-test .taken in (
       omega (arith, lx),
       (
-        l .inv .1 .0,
-        passed-next (settings-of s) (pictures-of s) (depths-of s) (held-of s) y (l .x) (l .sum) (c .square-error .result) lx (l .inv .1 .1)
+        i .inv .1 .0,
+        passed-next (settings-of s) (pictures-of s) (depths-of s) (held-of s) (r .before .rows .y) (i .x) (i .sum) (c .square-error .result) lx (i .inv .1 .1)
             (sym (seen .same-is) ∙ not-false _ (c .before .before .if1 .left))
-            (error-is (settings-of s) (pictures-of s) (depths-of s) y (l .x) (at .before .before .before .before .before .before .before .before .before .shown-at .result) (c .square-error .result) (seen .shown-is) (c .square-error .ensures .0))
+            (error-is (settings-of s) (pictures-of s) (depths-of s) (r .before .rows .y) (i .x) _ (c .square-error .result) (seen .shown-is) (c .square-error .ensures .0))
             (c .square-error .ensures .1),
       ),
     )
 
 add-y : tie.Need-add-y Inv-loop μ-loop Inv-rows μ-rows
-add-y c = omega (arith, c .before .before .before .before .before .before .before .before .before .before .before .before .rows-test .taken, common (c .before .before .before .before .before .before .before .before .before .before .before .before .before .before .before .before .before .before .before .before .before .before .before .before .before .before) .size .h .most)
+add-y c = let r = c .before .before .before .before .before .before .before .before .before .before .before .before in omega (arith, r .rows-test .taken, common (start-of r) .size .h .most)
 
 rows-less : tie.Need-rows-less Inv-loop μ-loop Inv-rows μ-rows
 rows-less c = omega (arith, c .before .before .before .before .before .before .before .before .before .before .before .before .rows-test .taken)
 
 rows-again : tie.Need-rows-again Inv-loop μ-loop Inv-rows μ-rows
 rows-again c =
-    let s = c .before .before .before .before .before .before .before .before .before .before .before .before .before .before .before .before .before .before .before .before .before .before .before .before .before .before in
-    let l = c .before .loop in
+    let r = c .before .before .before .before .before .before .before .before .before .before .before .before in
+    let s = start-of r in
+    let i = c .before .loop in
     let full = c .loop-test .left in
-    let e : l .x ≡ s .args .w = omega (arith, l .inv .0, full) in (
-      omega (arith, c .before .before .before .before .before .before .before .before .before .before .before .before .rows-test .taken),
+    let e : i .x ≡ s .args .w = omega (arith, i .inv .0, full) in (
+      omega (arith, r .rows-test .taken),
       (
-        l .inv .1 .0,
-        passed-row (settings-of s) (pictures-of s) (depths-of s) (held-of s) (c .before .before .before .before .before .before .before .before .before .before .before .before .before .rows .y) (l .x) (l .sum) e (l .inv .1 .1),
+        i .inv .1 .0,
+        passed-row (settings-of s) (pictures-of s) (depths-of s) (held-of s) (r .before .rows .y) (i .x) (i .sum) e (i .inv .1 .1),
       ),
     )
 
 returns : tie.Need-returns Inv-loop μ-loop Inv-rows μ-rows
 returns c =
     let s = c .before .before .before .before .before .before .before .before .before .before .before .before .before .before in
-    let r = c .before .rows in
+    let i = c .before .rows in
     let full = c .rows-test .left in
-    let e : r .y ≡ s .args .h = omega (arith, r .inv .0, full) in
-    walked-all (settings-of s) (pictures-of s) (depths-of s) (held-of s) (r .place) (r .sum) (r .y) (r .inv .1 .0) e (r .inv .1 .1)
+    let e : i .y ≡ s .args .h = omega (arith, i .inv .0, full) in
+    walked-all (settings-of s) (pictures-of s) (depths-of s) (held-of s) (i .place) (i .sum) (i .y) (i .inv .1 .0) e (i .inv .1 .1)
 
 returns-2 : tie.Need-returns-2 Inv-loop μ-loop Inv-rows μ-rows
 returns-2 c =
-    let s = c .before .before .before .before .before .before .before .before .before .before .before .before .before .before .before .before .before .before .before .before .before .before .before .before .before .before .before .before .before .before .before .before .before .before .before .before .before .before .before .before .before .before .before in
-    let l = c .before .before .before .before .before .before .before .before .before .before .before .before .before .before .before .before .before .before .loop in
-    walked-at (settings-of s) (pictures-of s) (depths-of s) (held-of s) (c .before .before .before .before .before .before .before .before .before .before .before .before .before .before .before .before .before .before .before .before .before .before .before .before .before .before .before .before .before .before .rows .y) (l .x) (l .sum) (c .before .before .before .before .before .before .before .before .before .before .before .before .before .before .before .before .before .before .before .before .before .before .before .before .before .before .before .before .before .rows-test .taken) (c .before .before .before .before .before .before .before .before .before .before .before .before .before .before .before .before .before .loop-test .taken) (l .inv .1 .1)
-    (sym (seen-of (c .before) .same-is) ∙ not-true _ (c .if1 .taken))
+    let l = column-of (c .before) in
+    let r = row-of l in
+    let s = start-of r in
+    let i = l .before .loop in
+    walked-at (settings-of s) (pictures-of s) (depths-of s) (held-of s) (r .before .rows .y) (i .x) (i .sum) (r .rows-test .taken) (l .loop-test .taken) (i .inv .1 .1)
+    (sym (seen-in (c .before) .same-is) ∙ not-true _ (c .if1 .taken))
 
 pub walk-spec : {M : Type 1} → statement M
 walk-spec =
