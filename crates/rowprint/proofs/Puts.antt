@@ -1,7 +1,9 @@
 -- Writing one thing after another.
---     put-byte, put-none, put-then, put-as
---     put-digit, put-tens      a number, by its last digit
---     put-line                 four numbers make a line
+--     put-byte, put-then, put-as              a byte; two things; the same under another name and with more room
+--     put-digit, put-last                     a number, by its last digit
+--     put-none, put-next, put-all             a text, byte by byte
+--     put-position, put-header                a line of four numbers; the header
+--     lines-none, lines-next, lines-all       the header and a line for each position
 use Prim.Native.Nat.{ℕ, _+_, _*_, _/_, _%_, _<_, _≤_}
 use mathlib.Core.Path.{_≡_, refl, sym, ap, _∙_}
 use mathlib.Core.List.{List, [], _∷_, _++_, append-assoc, append-nil}

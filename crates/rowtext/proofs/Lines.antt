@@ -1,7 +1,7 @@
 -- Reading a line.
---     line-printed     a printed line is read
---     line-read        what was read is a printed line
---     ahead            numbers before those of a line's rest, as a loop reads them
+--     line-printed                                    a printed line is read
+--     line-read                                       what was read is a printed line
+--     turn-first, turn-on, turn-off, turn-end         the turns of a loop that reads a line number by number
 use Prim.Native.Nat.{ℕ, zero, suc, _+_, _-_, _<_, _≤_}
 use mathlib.Core.Path.{_≡_, refl, sym, ap, _∙_}
 use mathlib.Core.List.{List, [], _∷_, _++_, append-assoc}

@@ -1,5 +1,6 @@
 -- Reading a number and what ends it: the number that was printed is read, and what was read is what was printed.
---     then-got                          a step that read something read with both its parts
+--     then-got                          two steps that read something each read something
+--     digits-.., number-..              how a further byte goes on a number
 --     number-printed, number-read       a number
 --     field-printed, field-read         a number and the byte that ends it
 use Prim.Native.Nat.{ℕ, zero, suc, _+_, _*_, _/_, _%_, _<_, _≤_}
