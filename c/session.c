@@ -130,6 +130,39 @@ static void refusals(luph_settings *s, const luph_pictures *p, const luph_planes
     print_check(s, p, q);
 }
 
+/* One of the 14 slices of pictures and planes becomes NULL; its length stays. */
+static void drop(luph_pictures *p, luph_planes *q, int slice) {
+    const int v = slice % 2;
+    switch (slice / 2) {
+    case 0: p->texture[v].data = NULL; break;
+    case 1: q->depth[v].data = NULL; break;
+    case 2: q->sample[v].data = NULL; break;
+    case 3: q->front[v].data = NULL; break;
+    case 4: q->marks[v].data = NULL; break;
+    case 5: q->limit[v].data = NULL; break;
+    default: if (v == 0) p->reference.data = NULL; else q->combined.data = NULL;
+    }
+}
+
+/* A NULL counts as length 0: every call refuses it with 2, as a plane without its exact length. */
+static void nulls(luph_settings *s, const luph_pictures *p, const luph_planes *q) {
+    const luph_block whole = {0, 0, W, 1};
+    int refused[4] = {0, 0, 0, 0};
+    for (int slice = 0; slice < 14; slice++) {
+        luph_pictures some = *p;
+        luph_planes held = *q;
+        luph_report r;
+        int64_t change;
+        drop(&some, &held, slice);
+        refused[0] += luph_open(s, &some, &held) == LUPH_REFUSED_PLANE;
+        refused[1] += luph_get(s, &some, &held, 0, whole, in(texture, W), &change) == LUPH_REFUSED_PLANE;
+        refused[2] += luph_set(s, &some, &held, 0, whole, in(texture, W), &change) == LUPH_REFUSED_PLANE;
+        refused[3] += luph_check(s, &some, &held, &r) == LUPH_REFUSED_PLANE;
+    }
+    printf("one of 14 slices NULL, refused: open %d, get %d, set %d, check %d\n", refused[0], refused[1], refused[2], refused[3]);
+    print_check(s, p, q);
+}
+
 /* Case g: a torn pair, whose far side fills the gap. */
 static void row(const luph_settings *s) {
     static const uint8_t depths[W] = {0, 0, 5, 0};
@@ -153,6 +186,7 @@ int main(void) {
     session(&s, &p, &q);
     reports(&s, &p, &q);
     refusals(&s, &p, &q);
+    nulls(&s, &p, &q);
     row(&s);
     return 0;
 }

@@ -128,7 +128,8 @@ uint32_t luph_raw_render(luph_settings settings, uint32_t view, LUPH_RAW_IN(text
 uint32_t luph_raw_open(luph_settings settings, LUPH_RAW_PICTURES, LUPH_RAW_DEPTHS(LUPH_RAW_IN),
     LUPH_RAW_HELD(LUPH_RAW_OUT, LUPH_RAW_OUT_LIMITS), uint64_t *total);
 uint32_t luph_raw_get(uint32_t w, uint32_t h, const uint16_t *left, const uint16_t *right, uint8_t share, uint8_t tolerance,
-    uint64_t total, LUPH_RAW_PICTURES, LUPH_RAW_DEPTHS(LUPH_RAW_IN), LUPH_RAW_HELD(LUPH_RAW_IN, LUPH_RAW_IN_LIMITS), uint32_t view, luph_block block, LUPH_RAW_IN(candidate), int64_t *change);
+    uint64_t total, LUPH_RAW_PICTURES, LUPH_RAW_DEPTHS(LUPH_RAW_IN), LUPH_RAW_HELD(LUPH_RAW_IN, LUPH_RAW_IN_LIMITS),
+    uint32_t view, luph_block block, LUPH_RAW_IN(candidate), int64_t *change);
 uint32_t luph_raw_set(luph_settings settings, LUPH_RAW_PICTURES, LUPH_RAW_DEPTHS(LUPH_RAW_OUT),
     LUPH_RAW_HELD(LUPH_RAW_OUT, LUPH_RAW_OUT_LIMITS), uint32_t view, luph_block block, LUPH_RAW_IN(candidate), int64_t *change,
     uint64_t *total);
@@ -176,34 +177,50 @@ static inline luph_limits luph_private_limits(luph_limits x) {
     return x;
 }
 
-static inline luph_pictures luph_private_pictures(const luph_pictures *p) {
-    luph_pictures x = *p;
-    for (int v = 0; v < 2; v++) x.texture[v] = luph_private_in(x.texture[v]);
-    x.reference = luph_private_in(x.reference);
-    return x;
+/*
+ * A call passes the slices straight from the caller's structs; only where one is NULL it passes those of a filled copy.
+ * Both functions stay out of the calls: with the test inside, compilers load every pointer for it and store it again.
+ */
+#ifdef __GNUC__
+#define LUPH_PRIVATE_APART static __attribute__((noinline, unused))
+#else
+#define LUPH_PRIVATE_APART static inline
+#endif
+
+/* Pictures and planes without a NULL. */
+typedef struct luph_private_copy {
+    luph_pictures pictures;
+    luph_planes planes;
+} luph_private_copy;
+
+LUPH_PRIVATE_APART int luph_private_has_null(const luph_pictures *p, const luph_planes *q) {
+    return p->texture[0].data == NULL || p->texture[1].data == NULL || p->reference.data == NULL ||
+        q->depth[0].data == NULL || q->sample[0].data == NULL || q->front[0].data == NULL || q->marks[0].data == NULL ||
+        q->depth[1].data == NULL || q->sample[1].data == NULL || q->front[1].data == NULL || q->marks[1].data == NULL ||
+        q->limit[0].data == NULL || q->limit[1].data == NULL || q->combined.data == NULL;
 }
 
-static inline luph_planes luph_private_planes(const luph_planes *q) {
-    luph_planes x = *q;
+LUPH_PRIVATE_APART void luph_private_fill(luph_private_copy *x, const luph_pictures *p, const luph_planes *q) {
+    x->pictures.reference = luph_private_in(p->reference);
+    x->planes.combined = luph_private_out(q->combined);
     for (int v = 0; v < 2; v++) {
-        x.depth[v] = luph_private_out(x.depth[v]);
-        x.sample[v] = luph_private_out(x.sample[v]);
-        x.front[v] = luph_private_out(x.front[v]);
-        x.marks[v] = luph_private_out(x.marks[v]);
-        x.limit[v] = luph_private_limits(x.limit[v]);
+        x->pictures.texture[v] = luph_private_in(p->texture[v]);
+        x->planes.depth[v] = luph_private_out(q->depth[v]);
+        x->planes.sample[v] = luph_private_out(q->sample[v]);
+        x->planes.front[v] = luph_private_out(q->front[v]);
+        x->planes.marks[v] = luph_private_out(q->marks[v]);
+        x->planes.limit[v] = luph_private_limits(q->limit[v]);
     }
-    x.combined = luph_private_out(x.combined);
-    return x;
 }
 
 /* How pictures and planes are written as arguments. */
 #define LUPH_RAW_SLICE(x) (x).data, (x).len
-#define LUPH_RAW_ALL(p, q)                                                                                                   \
-    LUPH_RAW_SLICE((p).texture[0]), LUPH_RAW_SLICE((p).texture[1]), LUPH_RAW_SLICE((p).reference),                           \
-    LUPH_RAW_SLICE((q).depth[0]), LUPH_RAW_SLICE((q).depth[1]),                                                              \
-    LUPH_RAW_SLICE((q).sample[0]), LUPH_RAW_SLICE((q).front[0]), LUPH_RAW_SLICE((q).limit[0]), LUPH_RAW_SLICE((q).marks[0]), \
-    LUPH_RAW_SLICE((q).sample[1]), LUPH_RAW_SLICE((q).front[1]), LUPH_RAW_SLICE((q).limit[1]), LUPH_RAW_SLICE((q).marks[1]), \
-    LUPH_RAW_SLICE((q).combined)
+#define LUPH_RAW_ALL(p, q)                                                                                                       \
+    LUPH_RAW_SLICE((p)->texture[0]), LUPH_RAW_SLICE((p)->texture[1]), LUPH_RAW_SLICE((p)->reference),                            \
+    LUPH_RAW_SLICE((q)->depth[0]), LUPH_RAW_SLICE((q)->depth[1]),                                                                \
+    LUPH_RAW_SLICE((q)->sample[0]), LUPH_RAW_SLICE((q)->front[0]), LUPH_RAW_SLICE((q)->limit[0]), LUPH_RAW_SLICE((q)->marks[0]), \
+    LUPH_RAW_SLICE((q)->sample[1]), LUPH_RAW_SLICE((q)->front[1]), LUPH_RAW_SLICE((q)->limit[1]), LUPH_RAW_SLICE((q)->marks[1]), \
+    LUPH_RAW_SLICE((q)->combined)
 
 /* ---- The calls. ---- */
 
@@ -228,10 +245,14 @@ static inline int luph_render(const luph_settings *s, uint32_t view, luph_in tex
  * total passed in is ignored. Depths are only read. Refuses 1, 2, 3, 4.
  */
 static inline int luph_open(luph_settings *s, const luph_pictures *p, const luph_planes *q) {
-    const luph_pictures pictures = luph_private_pictures(p);
-    const luph_planes planes = luph_private_planes(q);
+    luph_private_copy copy;
+    if (luph_private_has_null(p, q)) {
+        luph_private_fill(&copy, p, q);
+        p = &copy.pictures;
+        q = &copy.planes;
+    }
     uint64_t total = 0;
-    const uint32_t number = luph_raw_open(*s, LUPH_RAW_ALL(pictures, planes), &total);
+    const uint32_t number = luph_raw_open(*s, LUPH_RAW_ALL(p, q), &total);
     if (number == 0) s->total = total;
     return (int)number;
 }
@@ -242,12 +263,16 @@ static inline int luph_open(luph_settings *s, const luph_pictures *p, const luph
  */
 static inline int luph_get(const luph_settings *s, const luph_pictures *p, const luph_planes *q, uint32_t view, luph_block b,
     luph_in candidate, int64_t *change) {
-    const luph_pictures pictures = luph_private_pictures(p);
-    const luph_planes planes = luph_private_planes(q);
+    luph_private_copy copy;
+    if (luph_private_has_null(p, q)) {
+        luph_private_fill(&copy, p, q);
+        p = &copy.pictures;
+        q = &copy.planes;
+    }
     const luph_in depths = luph_private_in(candidate);
     int64_t found = 0;
     const uint32_t number = luph_raw_get(s->w, s->h, s->left, s->right, s->share, s->tolerance, s->total,
-        LUPH_RAW_ALL(pictures, planes), view, b, LUPH_RAW_SLICE(depths), &found);
+        LUPH_RAW_ALL(p, q), view, b, LUPH_RAW_SLICE(depths), &found);
     if (number == 0) *change = found;
     return (int)number;
 }
@@ -258,12 +283,16 @@ static inline int luph_get(const luph_settings *s, const luph_pictures *p, const
  */
 static inline int luph_set(luph_settings *s, const luph_pictures *p, const luph_planes *q, uint32_t view, luph_block b, luph_in candidate,
     int64_t *change) {
-    const luph_pictures pictures = luph_private_pictures(p);
-    const luph_planes planes = luph_private_planes(q);
+    luph_private_copy copy;
+    if (luph_private_has_null(p, q)) {
+        luph_private_fill(&copy, p, q);
+        p = &copy.pictures;
+        q = &copy.planes;
+    }
     const luph_in depths = luph_private_in(candidate);
     int64_t found = 0;
     uint64_t total = 0;
-    const uint32_t number = luph_raw_set(*s, LUPH_RAW_ALL(pictures, planes), view, b, LUPH_RAW_SLICE(depths), &found, &total);
+    const uint32_t number = luph_raw_set(*s, LUPH_RAW_ALL(p, q), view, b, LUPH_RAW_SLICE(depths), &found, &total);
     if (number == 0) {
         *change = found;
         s->total = total;
@@ -277,10 +306,14 @@ static inline int luph_set(luph_settings *s, const luph_pictures *p, const luph_
  * that column. Writes no plane. Refuses 1, 2, 3, 4.
  */
 static inline int luph_check(const luph_settings *s, const luph_pictures *p, const luph_planes *q, luph_report *r) {
-    const luph_pictures pictures = luph_private_pictures(p);
-    const luph_planes planes = luph_private_planes(q);
+    luph_private_copy copy;
+    if (luph_private_has_null(p, q)) {
+        luph_private_fill(&copy, p, q);
+        p = &copy.pictures;
+        q = &copy.planes;
+    }
     uint32_t kind = 0, row = 0, column = 0;
-    const uint32_t number = luph_raw_check(*s, LUPH_RAW_ALL(pictures, planes), &kind, &row, &column);
+    const uint32_t number = luph_raw_check(*s, LUPH_RAW_ALL(p, q), &kind, &row, &column);
     if (number == 0) {
         r->kind = (int)kind;
         r->row = kind == 1 ? row : 0;
@@ -301,6 +334,7 @@ static inline int luph_holes(const luph_settings *s, uint32_t view, luph_in mark
     return (int)number;
 }
 
+#undef LUPH_PRIVATE_APART
 #undef LUPH_RAW_SLICE
 #undef LUPH_RAW_ALL
 

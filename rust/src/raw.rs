@@ -72,6 +72,7 @@ extern "C" {
     ) -> u32;
 }
 
+#[inline]
 fn accepted<T>(number: u32, answer: T) -> Result<T, Refusal> {
     match number {
         0 => Ok(answer),
@@ -123,6 +124,7 @@ pub fn open(settings: &mut Settings, pictures: &Pictures, planes: &mut PlanesMut
 ///
 /// The candidate has width × height depths in row order. View 0 is left, view 1 right. Refuses 1, 2, 3, 4, 6, 5, 7, then 8.
 #[rustfmt::skip]
+#[inline]
 pub fn get(
     settings: &Settings, pictures: &Pictures, planes: &Planes, view: u32, block: Block, candidate: &[u8],
 ) -> Result<i64, Refusal> {

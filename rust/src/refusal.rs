@@ -39,7 +39,7 @@ impl Refusal {
 
     /// The refusal with this number, if there is one.
     pub fn from_number(number: u32) -> Option<Refusal> {
-        Refusal::ALL.into_iter().find(|refusal| refusal.number() == number)
+        Refusal::ALL.get(number.checked_sub(1)? as usize).copied()
     }
 }
 

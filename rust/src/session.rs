@@ -50,6 +50,7 @@ impl Session {
     ///
     /// # Errors
     /// Refuses [`Bounds`](Refusal::Bounds), then [`Candidate`](Refusal::Candidate), and nothing else.
+    #[inline]
     pub fn get(&self, view: View, block: Block, candidate: &[u8]) -> Result<i64, Refusal> {
         lent::get(&self.settings, &self.pictures(), &self.planes(), view as u32, block, candidate)
     }
@@ -97,11 +98,13 @@ impl Session {
     }
 
     /// The pictures.
+    #[inline]
     pub fn pictures(&self) -> Pictures<'_> {
         Pictures { textures: both(&self.textures), reference: &self.reference }
     }
 
     /// The depths and every held plane.
+    #[inline]
     pub fn planes(&self) -> Planes<'_> {
         Planes {
             depths: both(&self.depths),
@@ -142,6 +145,7 @@ fn lengths(settings: &Settings) -> (usize, usize) {
     }
 }
 
+#[inline]
 fn both<T>(pair: &[Vec<T>; 2]) -> [&[T]; 2] {
     let [left, right] = pair;
     [left, right]

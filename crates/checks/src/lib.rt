@@ -86,7 +86,7 @@ fn walk(
     rightTable: &[u16; 256],
     share: u8,
     tolerance: u8,
-    squares: &[u32; 256],
+    squares: &[u16; 256],
     left: &[u8],
     right: &[u8],
     reference: &[u8],

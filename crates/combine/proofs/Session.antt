@@ -10,7 +10,7 @@ use mathlib.Core.Bool.{Bool, true, false, not}
 use mathlib.Core.List.{List}
 use native.Mathlib.Nat.{mul-comm}
 use lib.ListN.{length}
-use lib.IntN.{ℤ, pos}
+use lib.IntN.{pos}
 use Rattle.model.specs.declared.Settings.{Settings}
 use Rattle.model.specs.declared.Block.{Block}
 use Rattle.model.specs.declared.Pixel.{Pixel}
@@ -18,7 +18,7 @@ use Rattle.model.specs.Lists.{listOf, rowOf}
 use Rattle.model.specs.Views.{isRight}
 use Rattle.model.specs.Marks.{markBytes}
 use Rattle.model.specs.Combined.{combinedOf}
-use Rattle.model.specs.Planes.{Pictures, Depths, View, Held, depths, view, held, tableOf, textureOf, depthsOf, viewOf, viewRows, heldRow}
+use Rattle.model.specs.Planes.{Pictures, Depths, View, Held, depths, held, tableOf, textureOf, depthsOf, viewOf, viewRows, heldRow}
 use Rattle.model.specs.Fresh.{freshRow, freshView, shownAt, freshSample, freshCombined, fresh}
 use Rattle.model.specs.Blocks.{inRows, writtenPlane, written}
 use Rattle.model.specs.Refusals.{tableOk}
@@ -28,6 +28,7 @@ use Rattle.model.proofs.Fresh.{DepthsSized, row-fresh-samples, row-fresh-fronts
 use Rattle.model.proofs.Written.{written-own, written-other}
 use Rattle.model.proofs.Locality.{sized-written}
 use Rattle.model.proofs.Refusals.{table-yes, Common, Own}
+use Rattle.planes.proofs.Views.{view-same}
 use Rattle.marks.specs.Puts.{heldPixel}
 use Rattle.sums.specs.Sides.{paired}
 use Rattle.commit.specs.Commit.{Sized, SoundRow, heldIn}
@@ -107,9 +108,6 @@ module _ (s : Settings) (v : ℕ) (b : Block) (h : Held) (x : View) (c : List �
 
 -- ---- the fresh drawing by its rows
 
-view-ext : {a b m : List ℕ} {l : List ℤ} {a′ b′ m′ : List ℕ} {l′ : List ℤ} → a ≡ a′ → b ≡ b′ → l ≡ l′ → m ≡ m′ → view a b l m ≡ view a′ b′ l′ m′
-view-ext ea eb el em = rw (ea, eb, el, em)
-
 paired-sides : (r : Bool) (share tolerance : ℕ) (shown : Bool → Pixel) → paired r share tolerance (shown r) (shown (not r)) ≡ combinedOf share tolerance (shown false) (shown true)
 unfolding paired
 paired-sides true share tolerance shown = refl
@@ -146,7 +144,7 @@ module _ (s : Settings) (p : Pictures) (d : Depths) (sized : DepthsSized s d) wh
   sound-fresh : (r : Bool) (x : View) → Sized (s .w) (s .h) (textureOf p r) (depthsOf d r) x → ((y : ℕ) → y < s .h → SoundRow r (tableOf s r) (textureOf p r) (s .w) (depthsOf d r) x y) → x ≡ freshView s p d r
   unfolding freshRow
   sound-fresh r x z sound =
-      view-ext
+      view-same
       (plane-ext 0 (s .w) (s .h) _ _ (z .samples ∙ mul-comm (s .w) (s .h)) (length-fresh-samples s p d sized r ∙ mul-comm (s .w) (s .h)) (λ y k. sound y k .samples ∙ sym (row-fresh-samples s p d sized r y k)))
       (plane-ext 0 (s .w) (s .h) _ _ (z .fronts ∙ mul-comm (s .w) (s .h)) (length-fresh-fronts s p d sized r ∙ mul-comm (s .w) (s .h)) (λ y k. sound y k .fronts ∙ sym (row-fresh-fronts s p d sized r y k)))
       (plane-ext (pos 0) (s .w) (s .h) _ _ (z .limits ∙ mul-comm (s .w) (s .h)) (length-fresh-limits s p d sized r ∙ mul-comm (s .w) (s .h)) (λ y k. sound y k .limits ∙ sym (row-fresh-limits s p d sized r y k)))

@@ -38,10 +38,6 @@ pub record BlockIn (w h : ℕ) (b : Block) (candidate : List ℕ) : Type 0 where
   pub below : b .row + b .height ≤ h
   pub size : length candidate ≡ b .width * b .height
 
--- a block from its four numbers
-abbrev pub blockOf : ℕ → ℕ → ℕ → ℕ → Block
-blockOf column row width height = record { column = column; row = row; width = width; height = height }
-
 -- Row y is set: the candidate stands at its column x, every row that was sound is sound again, and where its combined row was made of what
 -- the two views hold, it is so again. No other row changes. The other view's planes are s₂, f₂ and m₂.
 pub record RowSet (right : Bool) (t : List ℕ) (share tolerance w y x : ℕ) (texture candidate s₂ f₂ m₂ d d′ : List ℕ) (v v′ : View) (c c′ : List ℕ) : Type 0 where

@@ -5,10 +5,10 @@ ghost use Prim.Native.Nat.{_+_, _-_, _*_, _≤_, _<_};
 ghost use lib.ListN.{length};
 ghost use Rattle.model.specs.Planes.{view};
 ghost use Rattle.model.specs.Refusals.{tableOk};
-ghost use Rattle.planes.specs.Parts.{splice};
+ghost use Rattle.planes.specs.Parts.{splice, blockOf};
 ghost use Rattle.blend.specs.Blend.{combinedPart};
 ghost use Rattle.commit.specs.Commit.{Sized, RowIn, heldAt};
-ghost use Rattle.combine.specs.Combine.{ViewIn, OtherSized, BlockIn, blockOf, RowSet, BlockSet};
+ghost use Rattle.combine.specs.Combine.{ViewIn, OtherSized, BlockIn, RowSet, BlockSet};
 
 // Writes the combined samples of the entries `from` up to `to` of row y. The first three planes are those of the view that `right` names,
 // the second three the other view's.

@@ -1,7 +1,6 @@
 -- The limits of a row after an edit.
 --     limit-settled      left of the edit, once a limit is what it was, so are all before it
 --     limits-again       so limits that were true, written down to where they settled, are true
---     high-end, high-held                                      the high end of the span
 --     written-none, written-back, written-settled, written-all     the limits as they are written, from the right
 use Prim.Native.Nat.{ℕ, zero, suc, _+_, _-_, _<_, _≤_, min}
 use mathlib.Core.Path.{_≡_, sym, ap, _∙_}
@@ -11,19 +10,18 @@ use native.Mathlib.Omega.{arith}
 use lib.ListN.{length, getD, set}
 use lib.IntN.{ℤ, pos}
 use Rattle.model.specs.Lists.{listOf}
-use Rattle.model.specs.Row.{line, place, limit, limitAt, quarter, signed}
+use Rattle.model.specs.Row.{line, place, limit, limitAt, signed}
 use Rattle.model.proofs.Choice.{lt-or-le}
 use Rattle.model.proofs.Lists.{length-listOf, getD-listOf, list-of}
-use Rattle.model.proofs.Owners.{limit-end, limit-step, limit-most}
+use Rattle.model.proofs.Owners.{limit-step, limit-most}
 use Rattle.model.proofs.Spans.{Moved, EditedRow, edited-moved, span-limit}
 use Rattle.planes.specs.Parts.{Filled}
 use Rattle.planes.proofs.Fills.{filled-none, filled-back}
 use Rattle.signed.specs.Limits.{raisedOf}
 use Rattle.signed.proofs.Limits.{raised-signed}
-use Rattle.pixel.proofs.Pairs.{next-last, next-inner}
 use Rattle.row.specs.Drawing.{limitBelow}
 use Rattle.row.proofs.Below.{below-end, below-step, below-limit}
-use Rattle.commit.specs.Commit.{High, Relimited}
+use Rattle.commit.specs.Commit.{Relimited}
 
 -- over any places before and after an edit
 pub limit-settled : {f g : ℕ → ℕ} {w a b : ℕ} → Moved f g w a b → (n j : ℕ) → j + n ≤ a → limit g w (j + n) ≡ limit f w (j + n) → limit g w j ≡ limit f w j
@@ -58,30 +56,6 @@ limits-again t s d d′ a b n high {e} {e′} edit en most eh old le r =
         ∙ raised-signed (limit (place t d) (length d) (r .stop - 1)) (omega (arith, limit-most (place t d) (length d) (r .stop - 1))) in
         let z : c + (r .stop - 1 - c) ≡ r .stop - 1 = omega arith in
         rw (edit .same) (limit-settled (edited-moved t d d′ a b edit) (r .stop - 1 - c) c (omega (arith, r .order)) (rw z (rw (edit .same) at same)))
-
--- ---- the high end of the span
-
--- past the last column it is the row's end
-pub high-end : (t d : List ℕ) (n high : ℕ) (e : List ℤ) → length d ≤ n → n ≤ length d → 0 < n → high ≡ quarter (length d) → High t d n high e
-high-end t d n high e h k some eh =
-    let z : n ≡ length d = omega arith in
-    record {
-      roof = rw (next-last t d (n - 1) (omega arith)) (omega arith);
-      exact = λ u. rw z (eh ∙ sym (limit-end (place t d) (length d)));
-    }
-
--- else the held limit, or the column's own place where that is less: a true limit is not above it
-pub high-held : (t d : List ℕ) (n high held own : ℕ) (e : List ℤ) → length d ≤ 4096 → n < length d → 0 < n → held ≡ raisedOf (getD e n (pos 0)) → own ≡ place t d n → high ≡ min held own → High t d n high e
-high-held t d n high held own e most h some ee eo eh =
-    let z : n - 1 + 1 ≡ n = omega arith in
-    let x : ℕ = limit (place t d) (length d) n in
-    record {
-      roof = rw (next-inner t d (n - 1) (omega arith), z) (omega arith);
-      exact = λ u.
-          let b : held ≡ limit (place t d) (length d) n =
-          ee ∙ ap raisedOf (u h) ∙ raised-signed (limit (place t d) (length d) n) (omega (arith, limit-most (place t d) (length d) n)) in
-          omega (arith, eh, b, eo, limit-step (place t d) (length d) n h);
-    }
 
 -- ---- the limits, written from the right
 

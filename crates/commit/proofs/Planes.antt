@@ -77,6 +77,7 @@ module _ (r : Bool) (t texture : List ℕ) (w y x n low high from to : ℕ) (can
         bottom = change .bottom;
         top = change .top;
         limits = change .limits;
+        held = length-row (v .limits) w y (size .limits);
         same = length-row (v′ .limits) w y (rw same (size .limits)) ∙ sym (length-row (v .limits) w y (size .limits));
         stretched = redraw .drawn .stretched;
       }
@@ -104,8 +105,8 @@ module _ (r : Bool) (t texture : List ℕ) (w y x n low high from to : ℕ) (can
         redraw .drawn .marks
         ∙ rw (s .marks)
         (marks-spliced w from _ (drawnRow r t texture w d y .marks) _ (flags-view r (line t (rowOf texture w y) (rowOf d w y)))
-        (flags-shown r (line t (seen r (rowOf texture w y)) (seen r (rowOf d′ w y))) n low high) marks-wide
-        (length-shown (λ q. q .mark) r (line t (seen r (rowOf texture w y)) (seen r (rowOf d′ w y))) n low high) (fit (λ q. q .mark)))
+        (flags-shown r (line t (seen r (rowOf texture w y)) (seen r (rowOf d′ w y))) n _ _) marks-wide
+        (length-shown (λ q. q .mark) r (line t (seen r (rowOf texture w y)) (seen r (rowOf d′ w y))) n _ _) (fit (λ q. q .mark)))
 
     sound-here : SoundRow r t texture w d′ v′ y
     unfolding viewRow leftRow
@@ -129,7 +130,7 @@ module _ (r : Bool) (t texture : List ℕ) (w y x n low high from to : ℕ) (can
         mark-here d′ (rowOf (v′ .marks) (markBytes w) y) i (sound-here .marks) h
         ∙ ap (λ (q : List ℕ). getD q i 0) (sym (plane-new step (rowOf texture w y) (s .limits) (λ q. q .mark) (drawnRow r t texture w d y .marks) refl))
         ∙ outside _ _ from to _ i (rw marks-wide (fit (λ q. q .mark)))
-        (length-shown (λ q. q .mark) r (line t (seen r (rowOf texture w y)) (seen r (rowOf d′ w y))) n low high) (redraw .drawn .stretched .size) out
+        (length-shown (λ q. q .mark) r (line t (seen r (rowOf texture w y)) (seen r (rowOf d′ w y))) n _ _) (redraw .drawn .stretched .size) out
         ∙ sym (mark-here d (rowOf (v .marks) (markBytes w) y) i (s .marks) h)
 
     kept-here : (i : ℕ) → i < w → (i < from) ⊎ (to ≤ i) → heldIn w v′ y i ≡ heldIn w v y i
@@ -139,11 +140,11 @@ module _ (r : Bool) (t texture : List ℕ) (w y x n low high from to : ℕ) (can
         let es : getD (rowOf (v′ .samples) w y) i 0 ≡ getD (rowOf (v .samples) w y) i 0 =
         ap (λ (q : List ℕ). getD q i 0) samples-row
         ∙ outside _ _ from to _ i (rw (length-row (v .samples) w y (size .samples)) (fit (λ q. q .sample)))
-        (length-shown (λ q. q .sample) r l n low high) (redraw .drawn .stretched .size) out in
+        (length-shown (λ q. q .sample) r l n _ _) (redraw .drawn .stretched .size) out in
         let ef : getD (rowOf (v′ .fronts) w y) i 0 ≡ getD (rowOf (v .fronts) w y) i 0 =
         ap (λ (q : List ℕ). getD q i 0) fronts-row
         ∙ outside _ _ from to _ i (rw (length-row (v .fronts) w y (size .fronts)) (fit (λ q. q .front)))
-        (length-shown (λ q. q .front) r l n low high) (redraw .drawn .stretched .size) out in
+        (length-shown (λ q. q .front) r l n _ _) (redraw .drawn .stretched .size) out in
         let em = marks-kept i h out in
         rw (es, ef, em)
 

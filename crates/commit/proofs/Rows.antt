@@ -24,9 +24,10 @@ use Rattle.planes.proofs.Fills.{filled-rest, filled-change}
 use Rattle.planes.proofs.SeenParts.{first-fits}
 use Rattle.row.specs.Drawing.{firstAt, pixelBelow}
 use Rattle.row.proofs.Below.{below-pixel, first-within}
-use Rattle.commit.specs.Commit.{High, Relimited, Stretched, spanShown}
+use Rattle.row.proofs.Limits.{limit-least, limit-true}
+use Rattle.commit.specs.Commit.{spanTop, Relimited, Stretched, spanShown}
 use Rattle.commit.proofs.Shown.{length-shown, shown-filled}
-use Rattle.commit.proofs.Edits.{row-edited, low-within}
+use Rattle.commit.proofs.Edits.{row-edited}
 use Rattle.commit.proofs.Limits.{limits-again}
 
 -- what one row's edit is: depths d before and d′ after, held limits e before and e′ after
@@ -38,8 +39,9 @@ pub record RowStep (r : Bool) (t : List ℕ) (w x n low high from to : ℕ) (can
   pub columns : n ≡ firstColumn r w x (length candidate) + length candidate
   pub depths : d′ ≡ splice d x candidate
   pub bottom : low ≡ spanLow (place t (seen r d)) (place t (seen r d′)) (firstColumn r w x (length candidate)) (n - 1)
-  pub top : High t (seen r d′) n high (seen r e)
+  pub top : high ≡ spanTop t (seen r d′) n (seen r e)
   pub limits : Relimited t (seen r d′) (firstColumn r w x (length candidate)) n high (seen r e) (seen r e′)
+  pub held : length e ≡ w
   pub same : length e′ ≡ length e
   pub stretched : Stretched r w low high from to
 
@@ -61,16 +63,12 @@ module _ {r : Bool} {t : List ℕ} {w x n low high from to : ℕ} {candidate d d
   some-columns : 0 < n
   some-columns = omega (arith, step .columns, step .some)
 
-  pub start-in : firstAt low ≤ w
-  start-in =
-      low-within t (seen r d) (seen r d′) (firstColumn r w x (length candidate)) (n - 1) w low (omega (arith, columns-most, step .columns)) (step .bottom)
-
   pub end-in : firstAt high ≤ w
-  end-in = rw new-wide at (first-within t (seen r d′) (n - 1) high (step .top .roof))
+  end-in = rw new-wide at (first-within t (seen r d′) (n - 1) high (rw (step .top) (limit-least _ n _)))
 
   pub shown-fits : (g : Pixel → ℕ) (s : List ℕ) → from + length (spanShown g r (line t (seen r s) (seen r d′)) n low high) ≤ w
   shown-fits g s =
-      rw (length-shown g r (line t (seen r s) (seen r d′)) n low high, ← step .stretched .size) (step .stretched .within)
+      rw (length-shown g r (line t (seen r s) (seen r d′)) n, ← step .stretched .size) (step .stretched .within)
 
   module _ (s : List ℕ) (old : e ≡ viewRow r (line t s d) .limits) where
     old-limits : seen r e ≡ listOf (limitAt (line t (seen r s) (seen r d))) (length (seen r d))
@@ -78,9 +76,9 @@ module _ {r : Bool} {t : List ℕ} {w x n low high from to : ℕ} {candidate d d
     old-limits = ap (seen r) old ∙ seen-seen r _
 
     pub true-high : high ≡ limit (place t (seen r d′)) (length (seen r d′)) n
-    unfolding limitAt
     true-high =
-        step .top .exact
+        step .top
+        ∙ limit-true t (seen r d′) (seen r e) n (seen r s) (length-seen r e ∙ step .held ∙ sym new-wide) (rw new-wide (step .most)) some-columns (rw new-wide columns-most)
         (λ k.
         ap (λ (l : List ℤ). getD l n (pos 0)) old-limits
         ∙ getD-listOf (pos 0) (limitAt (line t (seen r s) (seen r d))) (length (seen r d)) n (rw (edited .same) at k)

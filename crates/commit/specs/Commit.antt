@@ -10,7 +10,7 @@ use lib.ListN.{length, getD}
 use lib.IntN.{ℤ, pos}
 use Rattle.model.specs.declared.Pixel.{Pixel}
 use Rattle.model.specs.Lists.{listOf, rowOf}
-use Rattle.model.specs.Row.{Line, line, Row, place, limit, signed}
+use Rattle.model.specs.Row.{Line, line, Row, place, signed}
 use Rattle.model.specs.Views.{seen, viewRow}
 use Rattle.model.specs.Marks.{markBytes, packRow}
 use Rattle.model.specs.Planes.{View, viewRows}
@@ -19,7 +19,7 @@ use Rattle.planes.specs.Parts.{splice, Filled}
 use Rattle.signed.specs.Limits.{raisedOf}
 use Rattle.pixel.specs.Pairs.{nextPlace}
 use Rattle.marks.specs.Puts.{putMarks, heldPixel}
-use Rattle.row.specs.Drawing.{firstAt, pixelBelow, limitBelow}
+use Rattle.row.specs.Drawing.{firstAt, pixelBelow, limitBelow, limitUnder, Ready}
 
 -- ---- the planes of a view
 
@@ -68,11 +68,9 @@ pub record Rewritten (right : Bool) (t : List ℕ) (x a least : ℕ) (candidate 
   pub depths : d′ ≡ splice d x candidate
   pub low : least ≡ spanLow (place t (seen right d)) (place t (seen right d′)) a (a + length candidate - 1)
 
--- What is taken for the limit of column n, the high end of the span: at most the column's own place, and the limit where the held one is
--- true. The rows of depths d and limits e are as the view reads them.
-pub record High (t d : List ℕ) (n high : ℕ) (e : List ℤ) : Type 0 where
-  pub roof : high ≤ nextPlace t d (n - 1)
-  pub exact : (n < length d → getD e n (pos 0) ≡ signed (limit (place t d) (length d) n)) → high ≡ limit (place t d) (length d) n
+-- What is taken for the limit of column n, the high end of the span. The rows of depths d and limits e are as the view reads them.
+abbrev pub spanTop : List ℕ → List ℕ → ℕ → List ℤ → ℕ
+spanTop t d n e = limitUnder e n (nextPlace t d (n - 1))
 
 -- The limits of the columns below n are written, down to column `stop`. Left of column a, once the held limit is the one to be written,
 -- so are all before it. The rows are as the view reads them.
@@ -84,7 +82,7 @@ pub record Relimited (t d : List ℕ) (a n high : ℕ) (e e′ : List ℤ) : Typ
 
 -- the high end, and the limits with it
 pub record Limited (t d : List ℕ) (a n high : ℕ) (e e′ : List ℤ) : Type 0 where
-  pub top : High t d n high e
+  pub top : high ≡ spanTop t d n e
   pub limits : Relimited t d a n high e e′
 
 -- Row y of the depths d and of the limits e, with the candidate written from column x on: n is the column after the candidate's last, as
@@ -93,13 +91,36 @@ pub record Changed (right : Bool) (t : List ℕ) (w y x : ℕ) (candidate d d′
   pub columns : n ≡ firstColumn right w x (length candidate) + length candidate
   pub depths : d′ ≡ splice d (y * w + x) candidate
   pub bottom : low ≡ spanLow (place t (seen right (rowOf d w y))) (place t (seen right (rowOf d′ w y))) (firstColumn right w x (length candidate)) (n - 1)
-  pub top : High t (seen right (rowOf d′ w y)) n high (seen right (rowOf e w y))
+  pub top : high ≡ spanTop t (seen right (rowOf d′ w y)) n (seen right (rowOf e w y))
   pub limits : Relimited t (seen right (rowOf d′ w y)) (firstColumn right w x (length candidate)) n high (seen right (rowOf e w y)) (seen right (rowOf e′ w y))
   pub others : (k : ℕ) → (k ≡ y → ⊥) → rowOf e′ w k ≡ rowOf e w k
 
--- what the span from low to high shows, drawn from the columns below n, in the order of the row's entries
-unfoldable pub spanShown : (Pixel → ℕ) → Bool → Line → ℕ → ℕ → ℕ → List ℕ
-spanShown g right l n low high = seen right (listOf (λ i. g (pixelBelow l n (firstAt low + i))) (firstAt high - firstAt low))
+-- ---- the span of a row
+
+-- Positions from `start` on can be drawn into parts of just that stretch, from the columns below n, and their marks can be put from entry
+-- `at` on.
+pub record Drawable (right : Bool) (t texture d : List ℕ) (n start at : ℕ) (s f m : List ℕ) : Type 0 where
+  pub ready : Ready (line t texture d)
+  pub some : 0 < n
+  pub columns : n ≤ length d
+  pub before : start + length s ≤ firstAt (nextPlace t (seen right d) (n - 1))
+  pub fronts : length f ≡ length s
+  pub marks : at + length s ≤ 8 * length m
+  pub most : at + length s ≤ 4096
+
+-- what k positions from `start` on show, drawn from the columns below n, in the order of the row's entries
+unfoldable pub partShown : (Pixel → ℕ) → Bool → Line → ℕ → ℕ → ℕ → List ℕ
+partShown g right l n start k = seen right (listOf (λ i. g (pixelBelow l n (start + i))) k)
+
+-- They are drawn, and their marks put into the row of marks m from entry `at` on.
+pub record PartDrawn (right : Bool) (l : Line) (n start at k : ℕ) (m s′ f′ m′ : List ℕ) : Type 0 where
+  pub samples : s′ ≡ partShown (λ q. q .sample) right l n start k
+  pub fronts : f′ ≡ partShown (λ q. q .front) right l n start k
+  pub marks : m′ ≡ putMarks m at (partShown (λ q. q .mark) right l n start k) k
+
+-- what the span from low to high shows
+abbrev pub spanShown : (Pixel → ℕ) → Bool → Line → ℕ → ℕ → ℕ → List ℕ
+spanShown g right l n low high = partShown g right l n (firstAt low) (firstAt high - firstAt low)
 
 -- The span's entries, `from` up to `to`, in a row of w; an empty span has none.
 pub record Stretched (right : Bool) (w low high from to : ℕ) : Type 0 where

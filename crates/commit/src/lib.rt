@@ -2,18 +2,16 @@
 ghost use mathlib.Core.Path.{_≡_};
 ghost use mathlib.Core.Bool.{true};
 ghost use Prim.Native.Nat.{_+_, _-_, _*_, _≤_, _<_};
-ghost use lib.ListN.{length, getD};
-ghost use lib.IntN.{pos};
+ghost use lib.ListN.{length};
 ghost use Rattle.model.specs.Lists.{rowOf};
 ghost use Rattle.model.specs.Row.{line};
 ghost use Rattle.model.specs.Views.{seen};
 ghost use Rattle.model.specs.Marks.{markBytes};
 ghost use Rattle.model.specs.Planes.{view};
 ghost use Rattle.model.specs.Refusals.{tableOk};
-ghost use Rattle.signed.specs.Limits.{raisedOf};
 ghost use Rattle.pixel.specs.Pairs.{nextPlace};
 ghost use Rattle.row.specs.Drawing.{Ready};
-ghost use Rattle.commit.specs.Commit.{RowIn, Rewritten, High, Relimited, Limited, Changed, Redrawn, RowRedrawn, RowCommitted};
+ghost use Rattle.commit.specs.Commit.{RowIn, Rewritten, spanTop, Relimited, Limited, Changed, Drawable, PartDrawn, Redrawn, RowRedrawn, RowCommitted};
 
 // An edit of a row: the column after its last, as the view reads the row, and the two ends of its span.
 pub struct Edit {
@@ -61,28 +59,15 @@ fn edit_row(
     row::least_place(right, table, depths, first, n, old)
 }
 
-// The limit that is held for column c, raised.
-fn held_limit(right: bool, limits: &[i16], c: usize) -> u32
-    requires { ⌜ c < length (now limits) ⌝ }
-    ensures { λ r. ⌜ r ≡ raisedOf (getD (seen right (now (limits .entry))) c (pos 0)) ⌝ }
-{
-    let i = row::entry(right, limits.len(), c);
-    signed::raised_of(limits[i])
-}
-
-// What is taken for the limit of column `columns`: the held one, or the column's own place where that is less, or the row's end.
+// What is taken for the limit of column `columns`, as a trial takes it: the held one, or the column's own place where that is less, or the
+// row's end.
 fn high_of(right: bool, table: &[u16; 256], depths: &[u8], limits: &[i16], columns: usize) -> u32
     requires { ⌜ (tableOk (now table) ≡ true) × (length (now depths) ≤ 4096) ⌝ }
-    requires { ⌜ (length (now limits) ≡ length (now depths)) × ((0 < columns) × (columns ≤ length (now depths))) ⌝ }
-    ensures { λ r. ⌜ High (now (table .entry)) (seen right (now (depths .entry))) columns r (seen right (now (limits .entry))) ⌝ }
+    requires { ⌜ (0 < columns) × (columns ≤ length (now depths)) ⌝ }
+    ensures { λ r. ⌜ r ≡ spanTop (now (table .entry)) (seen right (now (depths .entry))) columns (seen right (now (limits .entry))) ⌝ }
 {
-    let w = depths.len();
-    if w <= columns {
-        return 4 * w as u32 + 1024;
-    }
-    let held = held_limit(right, limits, columns);
-    let own = row::place_of(right, table, depths, columns);
-    row::least(held, own)
+    let next = row::next_place(right, table, depths, columns - 1);
+    row::limit_under(right, limits, columns, next)
 }
 
 // Writes the limits of the columns below `columns`, from the right. Left of column `first` it stops where the held limit is right already:
@@ -107,7 +92,7 @@ fn write_limits(
         let here = row::place_of(right, table, depths, c);
         top = row::least(here, top);
         if c < first {
-            if held_limit(right, limits, c) == top {
+            if row::held_limit(right, limits, c) == top {
                 return;
             }
         }
@@ -174,11 +159,128 @@ fn change_row(
     Edit { columns, low, high }
 }
 
+// Draws the positions from `start` on from the columns below `columns` into parts of just that stretch, and puts their marks into the row's
+// from entry `at` on; `flags` is room for them.
+fn draw_marked(
+    right: bool,
+    table: &[u16; 256],
+    texture: &[u8],
+    depths: &[u8],
+    columns: usize,
+    start: usize,
+    at: usize,
+    samples: &mut [u8],
+    fronts: &mut [u8],
+    marks: &mut [u8],
+    flags: &mut [u8],
+)
+    requires { ⌜ Drawable right (now table) (now texture) (now depths) columns start at (now samples) (now fronts) (now marks) ⌝ }
+    requires { ⌜ length (now flags) ≡ length (now samples) ⌝ }
+    ensures { λ _. ⌜ PartDrawn right (line (now (table .entry)) (seen right (now (texture .entry))) (seen right (now (depths .entry)))) columns start at (length (now (samples .entry)))
+        (now (marks .entry)) (now (samples .exit)) (now (fronts .exit)) (now (marks .exit)) ⌝ }
+{
+    row::draw_part(
+        right,
+        table,
+        texture,
+        depths,
+        columns,
+        start,
+        samples,
+        fronts,
+        flags,
+    );
+    marks::put_marks(marks, at, flags);
+}
+
 // Room for the marks of a row.
 fn room() -> [u8; 4096]
     ensures { λ r. ⌜ 4096 ≡ length r ⌝ }
 {
     [0u8; 4096]
+}
+
+// The same with room for a whole row: a stretch of more than 64 positions is rare.
+fn draw_long(
+    right: bool,
+    table: &[u16; 256],
+    texture: &[u8],
+    depths: &[u8],
+    columns: usize,
+    start: usize,
+    at: usize,
+    samples: &mut [u8],
+    fronts: &mut [u8],
+    marks: &mut [u8],
+)
+    requires { ⌜ Drawable right (now table) (now texture) (now depths) columns start at (now samples) (now fronts) (now marks) ⌝ }
+    ensures { λ _. ⌜ PartDrawn right (line (now (table .entry)) (seen right (now (texture .entry))) (seen right (now (depths .entry)))) columns start at (length (now (samples .entry)))
+        (now (marks .entry)) (now (samples .exit)) (now (fronts .exit)) (now (marks .exit)) ⌝ }
+{
+    let mut flags = room();
+    let n = samples.len();
+    draw_marked(
+        right,
+        table,
+        texture,
+        depths,
+        columns,
+        start,
+        at,
+        samples,
+        fronts,
+        marks,
+        &mut flags[..n],
+    );
+}
+
+// The same with as much room as the stretch asks for.
+fn draw_stretch(
+    right: bool,
+    table: &[u16; 256],
+    texture: &[u8],
+    depths: &[u8],
+    columns: usize,
+    start: usize,
+    at: usize,
+    samples: &mut [u8],
+    fronts: &mut [u8],
+    marks: &mut [u8],
+)
+    requires { ⌜ Drawable right (now table) (now texture) (now depths) columns start at (now samples) (now fronts) (now marks) ⌝ }
+    ensures { λ _. ⌜ PartDrawn right (line (now (table .entry)) (seen right (now (texture .entry))) (seen right (now (depths .entry)))) columns start at (length (now (samples .entry)))
+        (now (marks .entry)) (now (samples .exit)) (now (fronts .exit)) (now (marks .exit)) ⌝ }
+{
+    let n = samples.len();
+    if 64 < n {
+        draw_long(
+            right,
+            table,
+            texture,
+            depths,
+            columns,
+            start,
+            at,
+            samples,
+            fronts,
+            marks,
+        );
+        return;
+    }
+    let mut flags = [0u8; 64];
+    draw_marked(
+        right,
+        table,
+        texture,
+        depths,
+        columns,
+        start,
+        at,
+        samples,
+        fronts,
+        marks,
+        &mut flags[..n],
+    );
 }
 
 // Draws the span from `low` to `high` of row y from the columns below `columns`, and answers its entries. Of samples and fronts only the
@@ -212,20 +314,18 @@ fn redraw(
     let at = row::part_start(right, w, start, end);
     let from = y * w + at;
     let to = from + n;
-    let mut flags = room();
-    row::draw_span(
+    draw_stretch(
         right,
         table,
         texture,
         depths,
         columns,
-        high,
         start,
+        at,
         &mut samples[from..to],
         &mut fronts[from..to],
-        &mut flags[..n],
+        marks,
     );
-    marks::put_marks(marks, at, &flags[..n]);
     Stretch {
         from: at,
         to: at + n,

@@ -176,5 +176,5 @@ pub fn shown_at(
 {
     let left = marks::held_pixel(samples0, fronts0, marks0, x);
     let right = marks::held_pixel(samples1, fronts1, marks1, x);
-    sums::combined(share, tolerance, left, right)
+    sums::paired(false, share, tolerance, left, right)
 }

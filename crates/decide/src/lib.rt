@@ -1,7 +1,7 @@
 // What GET and SET decide: the first refusal that applies, or the change of the total.
 use model::Block;
 use model::Refusal;
-use trial::Totals;
+use trial::Sums;
 use validate::Lengths;
 use validate::ViewLengths;
 ghost use mathlib.Core.Path.{_≡_};
@@ -80,7 +80,7 @@ fn try_candidate(
     view: u32,
     block: Block,
     candidate: &[u8],
-) -> Totals
+) -> Sums
     requires { ⌜ earlyNumber (settingsOf w h (now leftTable) (now rightTable) share tolerance 0)
         (pictures (now left) (now right) (now reference))
         (depths (now leftDepths) (now rightDepths))

@@ -23,6 +23,7 @@ use Rattle.model.proofs.Lists.{rows-apart, plane-ext}
 use Rattle.model.proofs.Fresh.{DepthsSized, row-fresh-samples, row-fresh-fronts, row-fresh-limits, row-fresh-marks, length-fresh-samples, length-fresh-fronts, length-fresh-limits, length-fresh-marks}
 use Rattle.planes.specs.Parts.{splice}
 use Rattle.planes.proofs.Splices.{row-whole, row-other-whole, put-back, part-row, part-length}
+use Rattle.planes.proofs.Views.{view-same}
 use Rattle.row.specs.Drawing.{Ready, Drawn}
 use Rattle.draw.specs.Drawn.{Table, drawnRow, PlanesIn, PlanesOf, RowDrawn, ViewDrawn}
 
@@ -134,14 +135,6 @@ view-next {right} {t} {w} {y} {texture} {depths} {v} {v′} a r =
 
 -- ---- the fresh drawing
 
--- views with equal planes are equal
-pub view-same : (a b : View) → a .samples ≡ b .samples → a .fronts ≡ b .fronts → a .limits ≡ b .limits → a .marks ≡ b .marks → a ≡ b
-view-same a b p q r t =
-    ap (λ (x : List ℕ). view x (a .fronts) (a .limits) (a .marks)) p
-    ∙ ap (λ (x : List ℕ). view (b .samples) x (a .limits) (a .marks)) q
-    ∙ ap (λ (x : List ℤ). view (b .samples) (b .fronts) x (a .marks)) r
-    ∙ ap (λ (x : List ℕ). view (b .samples) (b .fronts) (b .limits) x) t
-
 pub view-whole :
     (s : Settings) (p : Pictures) (d : Depths) (right : Bool) (v : View) → DepthsSized s d →
     PlanesOf (s .w) (s .h) (textureOf p right) (depthsOf d right) v →
@@ -162,4 +155,4 @@ view-whole s p d right v z o a =
     let em : v .marks ≡ freshView s p d right .marks =
     plane-ext 0 (markBytes (s .w)) (s .h) (v .marks) (freshView s p d right .marks) (o .marks-of ∙ bh) (length-fresh-marks s p d z right ∙ bh)
     (λ y h. ap (λ (q : View). q .marks) (a .rows-are y h) ∙ sym (row-fresh-marks s p d z right y h)) in
-    view-same v (freshView s p d right) es ef el em
+    view-same es ef el em

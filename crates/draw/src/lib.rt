@@ -125,7 +125,7 @@ fn blend_row(
 }
 
 // The sum of the squared errors of row y of the picture.
-fn error_row(squares: &[u32; 256], w: usize, y: usize, combined: &[u8], reference: &[u8]) -> u32
+fn error_row(squares: &[u16; 256], w: usize, y: usize, combined: &[u8], reference: &[u8]) -> u32
     requires { ⌜ (Squares (now squares)) × (w ≤ 4096) ⌝ }
     requires { ⌜ (y * w + w ≤ length (now combined)) × (y * w + w ≤ length (now reference)) ⌝ }
     ensures { λ r. ⌜ (r ≡ rowError w (rowOf (now (combined .entry)) w y) (now (reference .entry)) y) × (r ≤ 65025 * w) ⌝ }
@@ -137,7 +137,7 @@ fn error_row(squares: &[u32; 256], w: usize, y: usize, combined: &[u8], referenc
 
 // Combines the left view's planes (0) and the right view's (1) into the picture, and answers its total.
 pub fn combine_picture(
-    squares: &[u32; 256],
+    squares: &[u16; 256],
     share: u8,
     tolerance: u8,
     w: usize,

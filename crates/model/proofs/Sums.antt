@@ -32,7 +32,8 @@ unfolding sumTo
 sum-add f g zero = refl
 sum-add f g (suc n) = omega (arith, sum-add f g n)
 
-sum-join : (f : ℕ → ℕ) (a n : ℕ) → sumTo f (a + n) ≡ sumTo f a + sumTo (λ i. f (a + i)) n
+-- a sum in two parts
+pub sum-join : (f : ℕ → ℕ) (a n : ℕ) → sumTo f (a + n) ≡ sumTo f a + sumTo (λ i. f (a + i)) n
 unfolding sumTo
 sum-join f a zero = rw (add-zero a) (omega arith)
 sum-join f a (suc n) = rw (add-suc a n) (omega (arith, sum-join f a n))

@@ -1,4 +1,6 @@
 -- A pair of columns shows what the row shows where the first of them is the owner.
+--     next-last, next-inner, next-most     the place after a column
+--     pair-pixel                           what the pair shows is what the row does
 use Prim.Native.Nat.{ℕ, _+_, _<_, _≤_}
 use mathlib.Core.Path.{_≡_}
 use mathlib.Core.Logic.{⊎-elim}
@@ -6,9 +8,10 @@ use mathlib.Core.List.{List}
 use lib.ListN.{length}
 use native.Mathlib.Omega.{arith}
 use borrow.Author.Tests.{le-leb, lt-leb}
-use Rattle.model.specs.Row.{Line, width, quarter, place, mixed, smoothPixel, tornPixel, lastPixel, pairPixel, ownedPixel}
+use Rattle.model.specs.Row.{Line, width, quarter, place, smoothPixel, tornPixel, lastPixel, pairPixel, ownedPixel}
 use Rattle.model.proofs.Choice.{lt-or-le}
-use Rattle.pixel.specs.Pairs.{nextPlace, pairOf, mixOf, smoothOf, tornOf, lastOf, kindPixel, pixelOf}
+use Rattle.pixel.specs.declared.Pair.{Pair}
+use Rattle.pixel.specs.Pairs.{nextPlace, Stands, smoothOf, tornOf, lastOf, kindPixel, pixelOf}
 
 pub next-last : (t d : List ℕ) (c : ℕ) → length d ≤ c + 1 → nextPlace t d c ≡ quarter (length d)
 unfolding nextPlace
@@ -30,7 +33,10 @@ next-most t d c =
     (λ h. rw (next-last t d c h) (omega arith))
     (lt-or-le (c + 1) (length d))
 
-pub pair-pixel : (l : Line) (c x : ℕ) → pixelOf (pairOf l c) x ≡ ownedPixel l c x
-unfolding pairOf pixelOf kindPixel smoothOf tornOf lastOf mixOf nextPlace ownedPixel lastPixel pairPixel smoothPixel tornPixel mixed
-pair-pixel l c x =
-    ⊎-elim (λ h. rw (lt-leb (width l) (c + 1) h)) (λ h. rw (le-leb (width l) (c + 1) h)) (lt-or-le (c + 1) (width l))
+pub pair-pixel : (l : Line) (q : Pair) (x : ℕ) → length (l .texture) ≡ width l → Stands (l .table) (l .depths) q → pixelOf (l .texture) q x ≡ ownedPixel l (q .column) x
+unfolding pixelOf kindPixel smoothOf tornOf lastOf nextPlace ownedPixel lastPixel pairPixel smoothPixel tornPixel
+pair-pixel l q x e s =
+    ⊎-elim
+    (λ h. rw (e, s .here, s .next, s .d0, s .d1, lt-leb (width l) (q .column + 1) h))
+    (λ h. rw (e, s .here, s .d0, le-leb (width l) (q .column + 1) h))
+    (lt-or-le (q .column + 1) (width l))

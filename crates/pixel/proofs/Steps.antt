@@ -38,6 +38,10 @@ step-count t gap h =
     (lt-or-le x (4 * gap)))
     (lt-or-le x (2 * gap))
 
+-- with a gap of 4 it is t
+pub step-even : (t gap : ℕ) → gap ≡ 4 → t ≡ stepOf t gap
+step-even t gap e = rw e (sym (step-is t 4 t (omega arith) (omega arith)))
+
 -- a weighted mean of two samples is at most the greater of them
 pub weigh : (top a b k : ℕ) → a ≤ top → b ≤ top → k ≤ 4 → a * (4 - k) + b * k ≤ top * 4
 weigh top a b k h g l =

@@ -1,20 +1,21 @@
-// What one position shows, from the two neighbouring columns at it.
-use model::Kind;
+// What one position shows, from its owner and the column after it.
 use model::Pixel;
 ghost use mathlib.Core.Path.{_≡_};
-ghost use Prim.Native.Nat.{_-_, _≤_, _<_};
-ghost use Rattle.model.specs.Row.{stepOf};
-ghost use Rattle.pixel.specs.Pairs.{reached, mixOf, smoothOf, tornOf, lastOf, kindPixel, pixelOf};
+ghost use Prim.Native.Nat.{_+_, _-_, _≤_, _<_};
+ghost use lib.ListN.{length, getD};
+ghost use Rattle.model.specs.Row.{stepOf, mixed};
+ghost use Rattle.model.specs.Views.{seen, entryOf};
+ghost use Rattle.pixel.specs.Pairs.{Among, reached, smoothOf, tornOf, lastOf, kindPixel, pixelOf};
 
-// Two neighbouring columns: their samples, depths and places. Where the first is the last of its row, `next` is the row's end.
+// A column and the one after it, as the view reads the row: the column and its entry, the two depths and the two places. Where the column
+// is the last of its row, `next` is the row's end.
 pub struct Pair {
-    pub s0: u8,
-    pub s1: u8,
+    pub column: usize,
+    pub entry: usize,
     pub d0: u8,
     pub d1: u8,
     pub here: u32,
     pub next: u32,
-    pub last: bool,
 }
 
 // 1 where x is at least m, else 0.
@@ -24,49 +25,75 @@ fn reaches(x: u32, m: u32) -> u32
     (m <= x) as u32
 }
 
-// The mixing step t quarters into a smooth pair, (8 × t + gap) div (2 × gap): how many multiples of 2 × gap are reached.
+// The mixing step t quarters into a smooth pair, (8 × t + gap) div (2 × gap): how many multiples of 2 × gap are reached. A gap of 4, that of
+// equal depths, is by far the commonest, and there the step is t.
 fn step_of(t: u32, gap: u32) -> u32
     requires { ⌜ (t < gap) × (gap < 65536) ⌝ }
     ensures { λ r. ⌜ (r ≡ stepOf t gap) × (r ≤ 4) ⌝ }
 {
+    if gap == 4 {
+        return t;
+    }
     let x = 8 * t + gap;
     reaches(x, 2 * gap) + reaches(x, 4 * gap) + reaches(x, 6 * gap) + reaches(x, 8 * gap)
 }
 
-// The sample k quarters of the way from the first column to the second.
-fn mix(q: Pair, k: u32) -> u8
-    requires { ⌜ k ≤ 4 ⌝ }
-    ensures { λ r. ⌜ r ≡ mixOf q k ⌝ }
+// The sample of column c, whose entry is e.
+fn sample_at(right: bool, texture: &[u8], c: usize, e: usize) -> u8
+    requires { ⌜ (c < length (now texture)) × (e ≡ entryOf right (length (now texture)) c) ⌝ }
+    ensures { λ r. ⌜ r ≡ getD (seen right (now (texture .entry))) c 0 ⌝ }
 {
-    ((q.s0 as u32 * (4 - k) + q.s1 as u32 * k + 2) / 4) as u8
+    texture[e]
+}
+
+// The sample of the column after c, whose entry is e.
+fn sample_after(right: bool, texture: &[u8], c: usize, e: usize) -> u8
+    requires { ⌜ (c + 1 < length (now texture)) × (e ≡ entryOf right (length (now texture)) c) ⌝ }
+    ensures { λ r. ⌜ r ≡ getD (seen right (now (texture .entry))) (c + 1) 0 ⌝ }
+{
+    let after = planes::right_of(right, texture.len(), c, e);
+    texture[after]
+}
+
+// The sample k quarters of the way from column c, whose entry is e, to the next.
+fn mix(right: bool, texture: &[u8], c: usize, e: usize, k: u32) -> u8
+    requires { ⌜ k ≤ 4 ⌝ }
+    requires { ⌜ (c + 1 < length (now texture)) × (e ≡ entryOf right (length (now texture)) c) ⌝ }
+    ensures { λ r. ⌜ r ≡ mixed (seen right (now (texture .entry))) c k ⌝ }
+{
+    let s0 = sample_at(right, texture, c, e) as u32;
+    let s1 = sample_after(right, texture, c, e) as u32;
+    ((s0 * (4 - k) + s1 * k + 2) / 4) as u8
 }
 
 // What a smooth pair shows at t.
-fn smooth_pixel(q: Pair, t: u32) -> Pixel
+fn smooth_pixel(right: bool, texture: &[u8], q: Pair, t: u32) -> Pixel
+    requires { ⌜ (Among right (length (now texture)) q) × (q .column + 1 < length (now texture)) ⌝ }
     requires { ⌜ (t < q .next - q .here) × (q .next < 65536) ⌝ }
-    ensures { λ r. ⌜ r ≡ smoothOf q t ⌝ }
+    ensures { λ r. ⌜ r ≡ smoothOf (seen right (now (texture .entry))) q t ⌝ }
 {
     let k = step_of(t, q.next - q.here);
     Pixel {
-        sample: mix(q, k),
+        sample: mix(right, texture, q.column, q.entry, k),
         mark: 0,
         front: q.d0,
     }
 }
 
 // What a torn pair shows at t: the near column at most a quarter past it, then the far one, as a hole.
-fn torn_pixel(q: Pair, t: u32) -> Pixel
-    ensures { λ r. ⌜ r ≡ tornOf q t ⌝ }
+fn torn_pixel(right: bool, texture: &[u8], q: Pair, t: u32) -> Pixel
+    requires { ⌜ (Among right (length (now texture)) q) × (q .column + 1 < length (now texture)) ⌝ }
+    ensures { λ r. ⌜ r ≡ tornOf (seen right (now (texture .entry))) q t ⌝ }
 {
     if t <= 1 {
         Pixel {
-            sample: q.s0,
+            sample: sample_at(right, texture, q.column, q.entry),
             mark: 0,
             front: q.d0,
         }
     } else {
         Pixel {
-            sample: q.s1,
+            sample: sample_after(right, texture, q.column, q.entry),
             mark: 1,
             front: q.d1,
         }
@@ -74,41 +101,45 @@ fn torn_pixel(q: Pair, t: u32) -> Pixel
 }
 
 // What the last column shows at t: a hole from two quarters past it on.
-fn last_pixel(q: Pair, t: u32) -> Pixel
-    ensures { λ r. ⌜ r ≡ lastOf q t ⌝ }
+fn last_pixel(right: bool, texture: &[u8], q: Pair, t: u32) -> Pixel
+    requires { ⌜ Among right (length (now texture)) q ⌝ }
+    ensures { λ r. ⌜ r ≡ lastOf (seen right (now (texture .entry))) q t ⌝ }
 {
     Pixel {
-        sample: q.s0,
+        sample: sample_at(right, texture, q.column, q.entry),
         mark: (1 < t) as u8,
         front: q.d0,
     }
 }
 
-// What a pair shows at t, by its kind.
-fn kind_pixel(q: Pair, t: u32) -> Pixel
+// What a pair shows at t, by its kind, which follows from its gap.
+fn kind_pixel(right: bool, texture: &[u8], q: Pair, t: u32) -> Pixel
+    requires { ⌜ (Among right (length (now texture)) q) × (q .column + 1 < length (now texture)) ⌝ }
     requires { ⌜ (t < q .next - q .here) × (q .next < 65536) ⌝ }
-    ensures { λ r. ⌜ r ≡ kindPixel q t ⌝ }
+    ensures { λ r. ⌜ r ≡ kindPixel (seen right (now (texture .entry))) q t ⌝ }
 {
-    match signed::pair_kind(q.here, q.next) {
-        Kind::Hidden => Pixel {
-            sample: q.s0,
+    let gap = signed::gap_of(q.here, q.next);
+    match gap {
+        ..=0 => Pixel {
+            sample: sample_at(right, texture, q.column, q.entry),
             mark: 0,
             front: q.d0,
         },
-        Kind::Smooth => smooth_pixel(q, t),
-        Kind::Torn => torn_pixel(q, t),
+        1..=8 => smooth_pixel(right, texture, q, t),
+        9.. => torn_pixel(right, texture, q, t),
     }
 }
 
-// What x shows, where the pair's first column owns it.
-pub fn pixel_of(q: Pair, x: u32) -> Pixel
+// What x shows, where the pair's column owns it.
+pub fn pixel_of(right: bool, texture: &[u8], q: Pair, x: u32) -> Pixel
+    requires { ⌜ Among right (length (now texture)) q ⌝ }
     requires { ⌜ (q .here ≤ x) × ((x < q .next) × (q .next < 65536)) ⌝ }
-    ensures { λ r. ⌜ r ≡ pixelOf q x ⌝ }
+    ensures { λ r. ⌜ r ≡ pixelOf (seen right (now (texture .entry))) q x ⌝ }
 {
     let t = x - q.here;
-    if q.last {
-        last_pixel(q, t)
+    if texture.len() <= q.column + 1 {
+        last_pixel(right, texture, q, t)
     } else {
-        kind_pixel(q, t)
+        kind_pixel(right, texture, q, t)
     }
 }

@@ -2,7 +2,7 @@
 --     filled-none, filled-next, filled-back, filled-join     it grows, to the right or to the left
 --     filled-change                                          rules that agree in the part
 --     filled-all, filled-rest                                filled whole, or where two rules differ, it is the rule's list
---     filled-splice, filled-part                             a part that was lent, filled and put back
+--     filled-splice                                          a part replaced by values of the rule
 use Prim.Native.Nat.{ℕ, _+_, _-_, _<_, _≤_}
 use mathlib.Core.Path.{_≡_, refl, sym, ap, subst, _∙_}
 use mathlib.Core.Logic.{⊎-elim, _⊎_, inl, inr}
@@ -75,8 +75,3 @@ module _ {A : Type 0} where
         under = λ i a. splice-under z p start xs h i a;
         beyond = λ i a. splice-beyond z p start xs h i a;
       }
-
-  -- a part that was lent, filled and put back
-  pub filled-part : (z : A) (f : ℕ → A) (start n : ℕ) (p ys : List A) {x : List A} → start + n ≤ length p → length ys ≡ n → Filled z (λ i. f (start + i)) 0 n x ys → Filled z f start (start + n) p (splice p start ys)
-  filled-part z f start n p ys h e d =
-      rw e at (filled-splice z f start p ys (rw e h) (λ i l. d .inside i (omega arith) (rw e at l)))

@@ -1,5 +1,6 @@
 -- A part of a row as a view reads it. n positions from `start` on are, for the view, the n entries from `firstColumn` of them on.
 --     first-fits, first-first      these entries lie in the row; and back again
+--     part-entry                   an entry of the part in the row
 --     seen-splice                  a part replaced, as the view reads the row
 --     seen-filled                  the part holds what a rule gives
 --     seen-all                     a part that was filled whole
@@ -13,7 +14,7 @@ use lib.ListN.{length, getD, take, drop, length-reverse, length-drop, take-appen
 use lib.Seq.{length-take-le, take-at, drop-at}
 use Rattle.model.specs.declared.Pixel.{Pixel}
 use Rattle.model.specs.Lists.{listOf}
-use Rattle.model.specs.Views.{seen}
+use Rattle.model.specs.Views.{seen, entryOf}
 use Rattle.model.specs.Span.{firstColumn}
 use Rattle.model.proofs.Views.{length-seen, seen-seen}
 use Rattle.planes.specs.Parts.{splice, Filled, Painted}
@@ -28,6 +29,12 @@ pub first-first : (r : Bool) (w a n : ℕ) → a + n ≤ w → firstColumn r w (
 unfolding firstColumn
 first-first true w a n h = omega arith
 first-first false w a n h = refl
+
+-- position i of the part is position start + i of the row
+pub part-entry : (r : Bool) (w start n i : ℕ) → start + n ≤ w → i < n → firstColumn r w start n + entryOf r n i ≡ entryOf r w (start + i)
+unfolding firstColumn entryOf
+part-entry true w start n i h k = omega arith
+part-entry false w start n i h k = refl
 
 module _ {A : Type 0} where
   three : (a b c : List A) → reverse (a ++ (b ++ c)) ≡ reverse c ++ (reverse b ++ reverse a)

@@ -4,6 +4,7 @@ use mathlib.Core.Path.{_≡_}
 use mathlib.Core.List.{List, _++_}
 use lib.ListN.{length, getD, take, drop}
 use Rattle.model.specs.declared.Pixel.{Pixel}
+use Rattle.model.specs.declared.Block.{Block}
 
 -- the entries xs in the place of as many of the list's own, from entry `at` on
 unfoldable pub splice : {A : Type 0} → List A → ℕ → List A → List A
@@ -20,3 +21,7 @@ pub record Painted (g : ℕ → Pixel) (start stop : ℕ) (s f m s′ f′ m′ 
   pub samples : Filled 0 (λ p. g p .sample) start stop s s′
   pub fronts : Filled 0 (λ p. g p .front) start stop f f′
   pub marks : Filled 0 (λ p. g p .mark) start stop m m′
+
+-- a block by its four numbers
+abbrev pub blockOf : ℕ → ℕ → ℕ → ℕ → Block
+blockOf column row width height = record { column = column; row = row; width = width; height = height }

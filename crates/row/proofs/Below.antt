@@ -1,5 +1,5 @@
 -- A row drawn from the columns below n alone, where `high` is taken for the limit of n.
---     below-end, below-step, below-most, below-above     these limits from the right
+--     below-end, below-step, below-most                  these limits from the right
 --     below-limit, below-pixel                           with the true limit of n they are the row's limits and pixels
 --     flag-below                                         its marks are 0 or 1
 --     first-mono, first-within                           positions before x, for x in a row
@@ -10,7 +10,7 @@ use native.Mathlib.Omega.{arith}
 use native.Mathlib.Numerals.{add-one}
 use lib.ListN.{length}
 use Rattle.model.specs.Row.{Line, width, placeIn, quarter, least, limit, owner, ownedPixel, pixelAt}
-use Rattle.model.proofs.Owners.{least-above, least-most, least-join, owner-below, place-zero}
+use Rattle.model.proofs.Owners.{least-most, least-join, owner-below, place-zero}
 use Rattle.model.proofs.Fresh.{flag-owned}
 use Rattle.pixel.specs.Pairs.{nextPlace}
 use Rattle.pixel.proofs.Pairs.{next-most}
@@ -29,10 +29,6 @@ below-step f high n c h =
 pub below-most : (f : ℕ → ℕ) (high n c : ℕ) → limitBelow f high n c ≤ high
 unfolding limitBelow
 below-most f high n c = least-most f high c (n - c)
-
-pub below-above : (f : ℕ → ℕ) (high n c x : ℕ) → x < limitBelow f high n c → (j : ℕ) → c ≤ j → j < n → x < f j
-unfolding limitBelow
-below-above f high n c x h j a b = least-above f high c (n - c) x h .1 j a (omega arith)
 
 -- with the true limit of n they are the limits
 pub below-limit : (f : ℕ → ℕ) (w n c : ℕ) → c ≤ n → n ≤ w → limitBelow f (limit f w n) n c ≡ limit f w c

@@ -35,6 +35,12 @@ unfolding least
 least-swap f g top a b m zero = refl
 least-swap f g top a b m (suc n) = least-top f (g b) (least g top (suc b) n) a m ∙ ap (min (g b)) (least-swap f g top a (suc b) m n)
 
+-- nor that they are made as one
+pub least-both : (f g : ℕ → ℕ) (top a n : ℕ) → least (λ c. min (f c) (g c)) top a n ≡ least f (least g top a n) a n
+unfolding least
+least-both f g top a zero = refl
+least-both f g top a (suc n) = omega (arith, least-both f g top (suc a) n, least-top f (g a) (least g top (suc a) n) (suc a) n)
+
 -- Low: the places f before an edit of the n columns from a on, with the place of a − 1, then the places g after it.
 pub low-is : (f g : ℕ → ℕ) (old low a n : ℕ) → 0 < n → old ≡ least f (f (a - 1)) a n → low ≡ least g old a n → low ≡ spanLow f g a (a + n - 1)
 unfolding spanLow

@@ -1,149 +1,125 @@
--- The pass from the right: what each column owns, and the limit that it leaves.
---     drawn, fill-fits, pair-row                            one column
---     pass-start, pass-column, pass-roof, pass-next, pass-end    the pass over the columns
---     limits-next                                           the limits, in a pass of their own
-use Prim.Native.Nat.{ℕ, _+_, _-_, _<_, _≤_, min}
+-- The pass from the right: each position's owner, and the limits.
+--     ahead-less, ahead-within, ahead-next, step-column, step-ahead      the pair from which the rest is drawn
+--     passed-none, passed-less, passed-join, passed-pixel, step-passed    the columns that were passed
+--     owner-passed                             the first column that is placed at most at a position owns it
+--     limits-next                              the limits, in a pass of their own
+use Prim.Native.Nat.{ℕ, _+_, _-_, _*_, _<_, _≤_, min}
 use mathlib.Core.Path.{_≡_, sym, ap, _∙_}
+use mathlib.Core.Bool.{Bool}
 use mathlib.Core.Logic.{⊎-elim}
 use mathlib.Core.List.{List}
 use native.Mathlib.Omega.{arith}
-use native.Mathlib.Nat.{le-trans, le-of-lt}
 use lib.ListN.{length, set}
 use lib.IntN.{ℤ, pos}
-use Rattle.model.specs.Row.{Line, width, quarter, placeIn, signed, ownedPixel}
+use Rattle.model.specs.Row.{Line, width, quarter, placeIn, owner, signed, ownedPixel}
 use Rattle.model.proofs.Choice.{lt-or-le}
-use Rattle.model.proofs.Owners.{Owns, owner-is, place-zero}
-use Rattle.planes.specs.Parts.{Filled, Painted}
+use Rattle.model.proofs.Owners.{Owns, owner-owns, owner-is, place-zero}
+use Rattle.planes.specs.Parts.{Filled}
 use Rattle.planes.proofs.Fills.{filled-back}
-use Rattle.planes.proofs.Paints.{painted-none, painted-join, painted-change}
 use Rattle.pixel.specs.declared.Pair.{Pair}
-use Rattle.pixel.specs.Pairs.{nextPlace, pairOf, pixelOf}
-use Rattle.pixel.proofs.Pairs.{next-inner, next-most, pair-pixel}
-use Rattle.row.specs.Drawing.{firstAt, pixelBelow, limitBelow, Ready}
-use Rattle.row.proofs.Below.{below-end, below-step, below-most, below-above, first-mono}
+use Rattle.pixel.specs.Pairs.{Among, Stands, pixelOf}
+use Rattle.pixel.proofs.Pairs.{next-most, pair-pixel}
+use Rattle.row.specs.Drawing.{firstAt, pixelBelow, limitBelow, Ahead, Passed}
+use Rattle.row.proofs.Below.{below-step}
 
--- fewer positions from `start` on lie before a lesser number
-pub count-mono : {x y : ℕ} (start : ℕ) → x ≤ y → firstAt x - start ≤ firstAt y - start
-count-mono {x} {y} start h = let k : firstAt x ≤ firstAt y = first-mono h in omega arith
+-- the quarters of the last position below `stop`
+abbrev pub lastBelow : ℕ → ℕ
+lastBelow stop = 4 * stop + 1020
 
--- ---- one column
+-- ---- the pair from which the rest is drawn
 
-pub pair-here : (l : Line) (c : ℕ) {q : Pair} → q ≡ pairOf l c → q .here ≡ placeIn l c
-unfolding pairOf
-pair-here l c e = ap (λ (q : Pair). q .here) e
+pub ahead-less : {right : Bool} {l : Line} {stop : ℕ} {q : Pair} (n : ℕ) → Ahead right l stop q → n ≤ stop → Ahead right l n q
+ahead-less n h k = record { among = h .among; stands = h .stands; before = omega (arith, h .before) }
 
-pub pair-next : (l : Line) (c : ℕ) {q : Pair} → q ≡ pairOf l c → q .next ≡ nextPlace (l .table) (l .depths) c
-unfolding pairOf
-pair-next l c e = ap (λ (q : Pair). q .next) e
+-- it lies in the row
+pub ahead-within : {right : Bool} {l : Line} {stop : ℕ} {q : Pair} → Ahead right l stop q → (q .next ≤ quarter (width l)) × (stop ≤ width l)
+ahead-within {right} {l} {stop} {q} h =
+    let k : q .next ≤ quarter (width l) = rw (h .stands .next) (next-most (l .table) (l .depths) (q .column)) in
+    (k, positions (q .next) (h .before) k)
+  where
+    positions : (x : ℕ) → stop ≤ firstAt x → x ≤ quarter (width l) → stop ≤ width l
+    positions x a b = omega arith
 
-module _ (l : Line) (ready : Ready l) (c start : ℕ) where
-  -- the column's stretch lies between its place and the next one
-  pub fill-fits : {here high from to : ℕ} {q : Pair} → here ≡ placeIn l c → q ≡ pairOf l c → from ≡ firstAt here - start → to ≡ firstAt high - start → high ≤ nextPlace (l .table) (l .depths) c → (firstAt (q .here) ≤ start + from) × ((to ≤ firstAt (q .next) - start) × (q .next < 65536))
-  fill-fits {here} {high} {from} {to} {q} eh eq ef et roof =
-      let a : q .here ≡ here = pair-here l c eq ∙ sym eh in
-      let b : q .next ≡ nextPlace (l .table) (l .depths) c = pair-next l c eq in (
-        rw a (reached here from ef),
-        (rw (et, b) (count-mono start roof), omega (arith, b, next-most (l .table) (l .depths) c, ready .most)),
-      )
+module _ {right : Bool} {l : Line} {stop : ℕ} {q : Pair} (h : Ahead right l stop q) (some : 0 < stop) where
+  -- column 0 is placed at most at every position
+  pub step-column : lastBelow stop < q .here → 0 < q .column
+  step-column k =
+      ⊎-elim (λ u. u)
+      (λ u.
+      let z : q .column ≡ 0 = omega arith in
+      let e : q .here ≡ placeIn l 0 = h .stands .here ∙ ap (placeIn l) z in
+      absurd (omega (arith, e, place-zero (l .table) (l .depths) 0)))
+      (lt-or-le 0 (q .column))
+
+  pub step-ahead : {r : Pair} → lastBelow stop < q .here → r .next ≡ q .here → Among right (width l) r → Stands (l .table) (l .depths) r → Ahead right l stop r
+  step-ahead {r} k e a s = record { among = a; stands = s; before = rw e (later (q .here) k) }
     where
-      reached : (here from : ℕ) → from ≡ firstAt here - start → firstAt here ≤ start + from
-      reached here from e = omega arith
+      later : (x : ℕ) → lastBelow stop < x → stop ≤ firstAt x
+      later x u = omega arith
 
-  pub stretch-order : {here high from to : ℕ} → from ≡ firstAt here - start → to ≡ firstAt high - start → here < high → from ≤ to
-  stretch-order e k h = rw (e, k) (count-mono start (le-of-lt h))
+  -- the position lies before the pair's second column
+  pub ahead-next : lastBelow stop < q .next
+  ahead-next = sooner (q .next) (h .before)
+    where
+      sooner : (x : ℕ) → stop ≤ firstAt x → lastBelow stop < x
+      sooner x u = omega arith
 
-  -- a column whose stretch was filled
-  pub drawn : {here from to high : ℕ} {q : Pair} {s f m s′ f′ m′ : List ℕ} → here ≡ placeIn l c → q ≡ pairOf l c → from ≡ firstAt here - start → to ≡ firstAt high - start → here < high → Painted (λ i. pixelOf q (quarter (start + i))) from to s f m s′ f′ m′ → (here ≡ min (placeIn l c) high) × Painted (λ i. ownedPixel l c (quarter (start + i))) (firstAt here - start) (firstAt high - start) s f m s′ f′ m′
-  drawn {here} {from} {to} {high} eh eq es et lt paint = (
-    omega arith,
-    rw (← es, ← et) (painted-change paint (λ i a b. rw eq (pair-pixel l c (quarter (start + i))))),
-  )
+-- ---- the columns that were passed
 
--- ---- the pass over the columns
+pub passed-none : (l : Line) (q : Pair) (stop : ℕ) → Passed l q q stop
+passed-none l q stop = record { column = omega arith; past = λ j p a b k. absurd (omega arith) }
 
-pub lower : (c w : ℕ) → 0 < c → c ≤ w → c - 1 < w
-lower c w h k = omega arith
+pub passed-less : {l : Line} {q r : Pair} {stop : ℕ} (n : ℕ) → Passed l q r stop → n ≤ stop → Passed l q r n
+passed-less n h k = record { column = h .column; past = λ j p a b u. h .past j p a b (omega arith) }
 
-least-right : (f r top : ℕ) → r ≡ min f top → r ≤ top
-least-right f r top e = omega arith
-
-before-top : (top start i : ℕ) → i < firstAt top - start → quarter (start + i) < top
-before-top top start i h = omega arith
-
-at-place : (f r top start i : ℕ) → r ≡ min f top → firstAt r - start ≤ i → quarter (start + i) < top → f ≤ quarter (start + i)
-at-place f r top start i e h k =
-    ⊎-elim
-    (λ u. let q : r ≡ f = omega arith in omega arith)
-    (λ u. let q : r ≡ top = omega arith in absurd (omega arith))
-    (lt-or-le f top)
-
--- What the pass has drawn, in parts that begin at position `start`, when it has come to column c of `columns`: the entries from `left` on.
-pub record DrawnFrom (l : Line) (start columns high top left c : ℕ) (s₀ f₀ m₀ s f m : List ℕ) : Type 0 where
-  pub column : c ≤ columns
-  pub limits : top ≡ limitBelow (placeIn l) high columns c
-  pub rest : left ≡ firstAt top - start
-  pub planes : Painted (λ i. pixelBelow l columns (start + i)) (firstAt top - start) (firstAt high - start) s₀ f₀ m₀ s f m
-
-pub pass-start : (l : Line) (start columns high left : ℕ) (s f m : List ℕ) → left ≡ firstAt high - start → DrawnFrom l start columns high high left columns s f m s f m
-pass-start l start columns high left s f m k =
+-- on, and on again
+pub passed-join : {l : Line} {q₀ q r : Pair} {m n : ℕ} → Passed l q₀ q m → Passed l q r n → n ≤ m → Passed l q₀ r n
+passed-join {l} {q₀} {q} {r} h k e =
     record {
-      column = omega arith;
-      limits = sym (below-end (placeIn l) high columns);
-      rest = k;
-      planes = painted-none _ _ _ _ _;
+      column = omega (arith, h .column, k .column);
+      past = λ j p a b u. ⊎-elim (λ v. h .past j p v b (omega arith)) (λ v. k .past j p a v u) (lt-or-le (q .column) j);
     }
 
-module _ {l : Line} {start columns high top left c : ℕ} {s₀ f₀ m₀ s f m : List ℕ} (d : DrawnFrom l start columns high top left c s₀ f₀ m₀ s f m) where
-  pub pass-below : top ≤ high
-  pass-below = omega (arith, d .limits, below-most (placeIn l) high columns c)
+-- the positions below `stop` show the same from either pair
+pub passed-pixel : {l : Line} {q₀ q : Pair} {stop : ℕ} (p : ℕ) → Passed l q₀ q stop → p < stop → pixelBelow l (q .column + 1) p ≡ pixelBelow l (q₀ .column + 1) p
+unfolding pixelBelow
+passed-pixel {l} {q₀} {q} p h k =
+    let z = place-zero (l .table) (l .depths) p in
+    let o = owner-owns (placeIn l) (quarter p) (q .column + 1) (omega arith) z in
+    ap (λ (c : ℕ). ownedPixel l c (quarter p))
+    (sym (owner-is (placeIn l) (quarter p) (q₀ .column + 1) (owner (placeIn l) (quarter p) (q .column + 1)) z
+    (record {
+      column = omega (arith, o .column, h .column);
+      here = o .here;
+      after = λ j u v. ⊎-elim (λ m. h .past j p m (omega arith) k) (λ m. o .after j u (omega arith)) (lt-or-le (q .column) j);
+    })))
 
-  -- column 0 leaves nothing to draw
-  pub pass-column : 0 < left → 0 < columns → 0 < c
-  pass-column more some =
-      ⊎-elim (λ h. h)
-      (λ h.
-      let z : c ≡ 0 = omega arith in
-      let e : top ≡ limitBelow (placeIn l) high columns 0 = rw z at (d .limits) in
-      absurd (omega (arith, d .rest, below-step (placeIn l) high columns 0 some, place-zero (l .table) (l .depths) 0)))
-      (lt-or-le 0 c)
-
-  -- what is left lies before the next column
-  pub pass-roof : 0 < c → columns ≤ width l → high ≤ nextPlace (l .table) (l .depths) (columns - 1) → top ≤ nextPlace (l .table) (l .depths) (c - 1)
-  pass-roof more k roof =
-      let z : c - 1 + 1 ≡ c = omega arith in
-      ⊎-elim
-      (λ h. rw (next-inner (l .table) (l .depths) (c - 1) (omega arith), z) (omega (arith, d .limits, below-step (placeIn l) high columns c h)))
-      (λ h. let e : c ≡ columns = omega (arith, d .column) in rw e (le-trans pass-below roof))
-      (lt-or-le c columns)
-
-  -- one column more
-  pub pass-next : {r left′ : ℕ} {s′ f′ m′ : List ℕ} → 0 < c → r ≡ min (placeIn l (c - 1)) top → Painted (λ i. ownedPixel l (c - 1) (quarter (start + i))) (firstAt r - start) (firstAt top - start) s f m s′ f′ m′ → left′ ≡ firstAt r - start → DrawnFrom l start columns high r left′ (c - 1) s₀ f₀ m₀ s′ f′ m′
-  unfolding pixelBelow
-  pass-next {r} more er paint el =
-      let z : c - 1 + 1 ≡ c = omega arith in
-      let step = below-step (placeIn l) high columns (c - 1) (omega (arith, d .column)) in
-      let step′ : limitBelow (placeIn l) high columns (c - 1) ≡ min (placeIn l (c - 1)) (limitBelow (placeIn l) high columns c) = rw z at step in
+module _ {right : Bool} {l : Line} {stop : ℕ} {q₀ q : Pair} (h : Passed l q₀ q stop) (a : Ahead right l stop q) (some : 0 < stop) where
+  pub step-passed : {r : Pair} → lastBelow stop < q .here → r .column ≡ q .column - 1 → Passed l q₀ r stop
+  step-passed {r} k e =
       record {
-        column = omega (arith, d .column);
-        limits = er ∙ ap (min (placeIn l (c - 1))) (d .limits) ∙ sym step′;
-        rest = el;
-        planes = painted-join (d .planes)
-            (painted-change paint (λ i a b.
-            let x : ℕ = quarter (start + i) in
-            let up : x < top = before-top top start i b in
-            let o : Owns (placeIn l) columns x (c - 1) = record {
-              column = lower c columns more (d .column);
-              here = at-place _ _ top start i er a up;
-              after = λ j u v. below-above (placeIn l) high columns c x (rw (← d .limits) up) j (omega arith) v;
-            } in
-            ap (λ (e : ℕ). ownedPixel l e x) (sym (owner-is (placeIn l) x columns (c - 1) (place-zero (l .table) (l .depths) (start + i)) o))))
-            (count-mono start (least-right _ _ top er)) (count-mono start pass-below);
+        column = omega (arith, h .column);
+        past = λ j p u v w.
+            ⊎-elim (λ m. h .past j p m v w)
+            (λ m.
+            let z : q .column ≡ j = omega (arith, step-column a some k) in
+            let x : q .here ≡ placeIn l j = a .stands .here ∙ ap (placeIn l) z in
+            omega arith)
+            (lt-or-le (q .column) j);
       }
 
-pub pass-end : {l : Line} {start columns high top left c : ℕ} {s₀ f₀ m₀ s f m : List ℕ} → DrawnFrom l start columns high top left c s₀ f₀ m₀ s f m → left ≤ 0 → Painted (λ i. pixelBelow l columns (start + i)) 0 (firstAt high - start) s₀ f₀ m₀ s f m
-pass-end {l} {start} {columns} {high} {top} d h =
-    let z : firstAt top - start ≡ 0 = omega (arith, d .rest) in
-    rw z at (d .planes)
+  -- the first column that is placed at most at a position owns it, and the pair shows what it shows there
+  pub owner-passed : length (l .texture) ≡ width l → q .here ≤ lastBelow stop → pixelOf (l .texture) q (lastBelow stop) ≡ pixelBelow l (q₀ .column + 1) (stop - 1)
+  unfolding pixelBelow
+  owner-passed wide k =
+      let x : quarter (stop - 1) ≡ lastBelow stop = omega arith in
+      let o : Owns (placeIn l) (q₀ .column + 1) (lastBelow stop) (q .column) = record {
+        column = omega (arith, h .column);
+        here = rw (a .stands .here) at k;
+        after = λ j u v. rw x at (h .past j (stop - 1) u (omega arith) (omega arith));
+      } in
+      pair-pixel l q (lastBelow stop) wide (a .stands)
+      ∙ rw x (ap (λ (c : ℕ). ownedPixel l c (lastBelow stop)) (sym (owner-is (placeIn l) (lastBelow stop) (q₀ .column + 1) (q .column) (omega (arith, place-zero (l .table) (l .depths) 0)) o)))
 
 -- ---- limits
 

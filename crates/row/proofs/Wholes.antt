@@ -30,12 +30,9 @@ ready-seen r t s d h =
       most = rw (length-seen r d) (h .most);
     }
 
--- the row's end, which is the limit past its last column
-pub end-roof : (t d : List ℕ) (n : ℕ) → 0 < n → length d ≡ n → quarter n ≤ nextPlace t d (n - 1)
-end-roof t d n h e = rw (next-last t d (n - 1) (omega arith), e) (omega arith)
-
-pub end-count : (n : ℕ) → n ≡ firstAt (quarter n) - 0
-end-count n = omega arith
+-- all its positions lie before the row's end
+pub end-before : (t d : List ℕ) (n : ℕ) → 0 < n → length d ≡ n → 0 + n ≤ firstAt (nextPlace t d (n - 1))
+end-before t d n h e = rw (next-last t d (n - 1) (omega arith), e) (omega arith)
 
 module _ (r : Bool) (t s d : List ℕ) (w : ℕ) (some : 0 < w) (wide : length d ≡ w) where
   seen-wide : length (seen r d) ≡ w
@@ -48,13 +45,12 @@ module _ (r : Bool) (t s d : List ℕ) (w : ℕ) (some : 0 < w) (wide : length d
       let e : limit (placeIn l) (width l) w ≡ quarter w = rw seen-wide (limit-end (placeIn l) w) in
       rw z (below-pixel l w p some (omega (arith, seen-wide)) (rw e (omega arith)))
 
-  plane-whole : (g : Pixel → ℕ) {x : List ℕ} (ys : List ℕ) → length ys ≡ w → Filled 0 (λ p. g (pixelBelow (line t (seen r s) (seen r d)) w (0 + p))) 0 (firstAt (quarter w) - 0) x (seen r ys) → ys ≡ seen r (listOf (λ p. g (pixelAt (line t (seen r s) (seen r d)) p)) (length (seen r d)))
+  plane-whole : (g : Pixel → ℕ) {x : List ℕ} (ys : List ℕ) → length ys ≡ w → Filled 0 (λ p. g (pixelBelow (line t (seen r s) (seen r d)) w (0 + p))) 0 w x (seen r ys) → ys ≡ seen r (listOf (λ p. g (pixelAt (line t (seen r s) (seen r d)) p)) (length (seen r d)))
   plane-whole g ys e h =
-      let k = rw (← end-count w) at h in
-      rw seen-wide (seen-all 0 r (λ p. g (pixelAt (line t (seen r s) (seen r d)) p)) w ys e (filled-change k (λ p a b. ap g (pixel-whole p b))))
+      rw seen-wide (seen-all 0 r (λ p. g (pixelAt (line t (seen r s) (seen r d)) p)) w ys e (filled-change h (λ p a b. ap g (pixel-whole p b))))
 
   -- a row painted from its end on shows the view's row
-  pub row-whole : {x y z : List ℕ} (xs ys zs : List ℕ) → length xs ≡ w → length ys ≡ w → length zs ≡ w → Painted (λ i. pixelBelow (line t (seen r s) (seen r d)) w (0 + i)) 0 (firstAt (quarter w) - 0) x y z (seen r xs) (seen r ys) (seen r zs) → Shows (viewRow r (line t s d)) xs ys zs
+  pub row-whole : {x y z : List ℕ} (xs ys zs : List ℕ) → length xs ≡ w → length ys ≡ w → length zs ≡ w → Painted (λ i. pixelBelow (line t (seen r s) (seen r d)) w (0 + i)) 0 w x y z (seen r xs) (seen r ys) (seen r zs) → Shows (viewRow r (line t s d)) xs ys zs
   unfolding viewRow leftRow
   row-whole xs ys zs lx ly lz p =
       record {

@@ -1,45 +1,50 @@
-// One row of one view: places, pixels, the drawing pass from the right, and limits.
+// One row of one view: places, pixels, the drawing from the right, and limits.
+use model::Pixel;
 use pixel::Pair;
 ghost use mathlib.Core.Path.{_≡_};
-ghost use mathlib.Core.Bool.{true};
+ghost use mathlib.Core.Bool.{true, false};
 ghost use Prim.Native.Nat.{_+_, _-_, _≤_, _<_, min};
 ghost use lib.ListN.{length, getD, set};
 ghost use lib.IntN.{pos};
-ghost use Rattle.model.specs.Row.{line, quarter, place, signed, ownedPixel, least as leastOf};
-ghost use Rattle.model.specs.Views.{seen, entryOf, viewRow};
+ghost use Rattle.model.specs.Row.{line, quarter, place, signed, least as leastOf};
+ghost use Rattle.model.specs.Views.{seen, viewRow};
 ghost use Rattle.model.specs.Span.{firstColumn};
 ghost use Rattle.model.specs.Refusals.{tableOk};
-ghost use Rattle.planes.specs.Parts.{Filled, Painted};
-ghost use Rattle.pixel.specs.Pairs.{nextPlace, pairOf, pixelOf};
-ghost use Rattle.row.specs.Drawing.{firstAt, pixelBelow, limitBelow, Ready, Shows, Drawn};
-
-// The entry of column c in a row of w: the right view reads the row backwards.
-pub fn entry(right: bool, w: usize, c: usize) -> usize
-    requires { ⌜ c < w ⌝ }
-    ensures { λ r. ⌜ (r ≡ entryOf right w c) × (r < w) ⌝ }
-{
-    if right { w - 1 - c } else { c }
-}
+ghost use Rattle.planes.specs.Parts.{splice, Filled, Painted};
+ghost use Rattle.signed.specs.Limits.{raisedOf};
+ghost use Rattle.pixel.specs.Pairs.{nextPlace, Among, Stands};
+ghost use Rattle.row.specs.Drawing.{firstAt, pixelBelow, limitBelow, limitUnder, Ready, lineWith, Ahead, SpanDrawn, Shows, Drawn};
 
 // What stands at column c, as the view reads the row; 0 past its end.
 pub fn at(right: bool, row: &[u8], c: usize) -> u8
     ensures { λ r. ⌜ r ≡ getD (seen right (now (row .entry))) c 0 ⌝ }
 {
     if c < row.len() {
-        let i = entry(right, row.len(), c);
+        let i = planes::entry(right, row.len(), c);
         row[i]
     } else {
         0
     }
 }
 
-// Stores v at column c, as the view reads the row.
-pub fn put(right: bool, row: &mut [u8], c: usize, v: u8)
-    requires { ⌜ c < length (now row) ⌝ }
-    ensures { λ _. ⌜ seen right (now (row .exit)) ≡ set (seen right (now (row .entry))) c v ⌝ }
+// Stores what position i of a part shows, as the view reads it.
+fn put_pixel(
+    right: bool,
+    samples: &mut [u8],
+    fronts: &mut [u8],
+    flags: &mut [u8],
+    i: usize,
+    shown: Pixel,
+)
+    requires { ⌜ (i < length (now samples)) × ((length (now fronts) ≡ length (now samples)) × (length (now flags) ≡ length (now samples))) ⌝ }
+    ensures { λ _. ⌜ (seen right (now (samples .exit)) ≡ set (seen right (now (samples .entry))) i (shown .sample))
+        × ((seen right (now (fronts .exit)) ≡ set (seen right (now (fronts .entry))) i (shown .front))
+        × (seen right (now (flags .exit)) ≡ set (seen right (now (flags .entry))) i (shown .mark))) ⌝ }
 {
-    let i = entry(right, row.len(), c);
-    row[i] = v;
+    let e = planes::entry(right, samples.len(), i);
+    samples[e] = shown.sample;
+    fronts[e] = shown.front;
+    flags[e] = shown.mark;
 }
 
 // Stores a limit at column c, as the view reads the row.
@@ -47,7 +52,7 @@ pub fn put_limit(right: bool, row: &mut [i16], c: usize, v: i16)
     requires { ⌜ c < length (now row) ⌝ }
     ensures { λ _. ⌜ seen right (now (row .exit)) ≡ set (seen right (now (row .entry))) c v ⌝ }
 {
-    let i = entry(right, row.len(), c);
+    let i = planes::entry(right, row.len(), c);
     row[i] = v;
 }
 
@@ -86,20 +91,38 @@ pub fn next_place(right: bool, table: &[u16; 256], depths: &[u8], c: usize) -> u
     }
 }
 
-// Columns c and c + 1, as the view reads the row.
-pub fn pair_at(right: bool, table: &[u16; 256], texture: &[u8], depths: &[u8], c: usize) -> Pair
-    requires { ⌜ (tableOk (now table) ≡ true) × ((c < length (now depths)) × (length (now depths) ≤ 4096)) ⌝ }
-    ensures { λ r. ⌜ r ≡ pairOf (line (now (table .entry)) (seen right (now (texture .entry))) (seen right (now (depths .entry)))) c ⌝ }
+// Column c of a row of w at depth d0, and the column after it.
+pub fn pair_of(
+    right: bool,
+    table: &[u16; 256],
+    w: usize,
+    c: usize,
+    d0: u8,
+    d1: u8,
+    next: u32,
+) -> Pair
+    requires { ⌜ (tableOk (now table) ≡ true) × ((c < w) × (w ≤ 4096)) ⌝ }
+    ensures { λ r. ⌜ (Among right w r) × ((r .column ≡ c) × ((r .d0 ≡ d0) × ((r .d1 ≡ d1) × ((r .here ≡ quarter c - getD (now (table .entry)) d0 0) × (r .next ≡ next))))) ⌝ }
 {
     Pair {
-        s0: at(right, texture, c),
-        s1: at(right, texture, c + 1),
-        d0: at(right, depths, c),
-        d1: at(right, depths, c + 1),
-        here: place_of(right, table, depths, c),
-        next: next_place(right, table, depths, c),
-        last: depths.len() <= c + 1,
+        column: c,
+        entry: planes::entry(right, w, c),
+        d0,
+        d1,
+        here: place_at(table, c, d0),
+        next,
     }
+}
+
+// Columns c and c + 1 of a row.
+pub fn pair_at(right: bool, table: &[u16; 256], depths: &[u8], c: usize) -> Pair
+    requires { ⌜ (tableOk (now table) ≡ true) × ((c < length (now depths)) × (length (now depths) ≤ 4096)) ⌝ }
+    ensures { λ r. ⌜ (r .column ≡ c) × ((Among right (length (now (depths .entry))) r) × (Stands (now (table .entry)) (seen right (now (depths .entry))) r)) ⌝ }
+{
+    let d0 = at(right, depths, c);
+    let d1 = at(right, depths, c + 1);
+    let next = next_place(right, table, depths, c);
+    pair_of(right, table, depths.len(), c, d0, d1, next)
 }
 
 // The first position at or past x.
@@ -113,14 +136,6 @@ pub fn first_at(x: u32) -> usize
     }
 }
 
-// How many of the positions from `start` on lie before x.
-pub fn count_before(x: u32, start: usize) -> usize
-    ensures { λ r. ⌜ r ≡ firstAt x - start ⌝ }
-{
-    let p = first_at(x);
-    if p <= start { 0 } else { p - start }
-}
-
 // The first entry of the part that holds positions `start` to `end` of a row of w.
 pub fn part_start(right: bool, w: usize, start: usize, end: usize) -> usize
     requires { ⌜ (start ≤ end) × (end ≤ w) ⌝ }
@@ -129,109 +144,219 @@ pub fn part_start(right: bool, w: usize, start: usize, end: usize) -> usize
     if right { w - end } else { start }
 }
 
-// Draws entries from `from` up to `to` of parts that begin at position `start`; the pair's first column owns their positions.
-fn fill(
-    right: bool,
-    q: Pair,
-    start: usize,
-    from: usize,
-    to: usize,
-    samples: &mut [u8],
-    fronts: &mut [u8],
-    flags: &mut [u8],
-)
-    requires { ⌜ (firstAt (q .here) ≤ start + from) × ((to ≤ firstAt (q .next) - start) × (q .next < 65536)) ⌝ }
-    requires { ⌜ from ≤ to ⌝ }
-    requires { ⌜ (to ≤ length (now samples)) × ((to ≤ length (now fronts)) × (to ≤ length (now flags))) ⌝ }
-    ensures { λ _. ⌜ Painted (λ i. pixelOf q (quarter (start + i))) from to
-        (seen right (now (samples .entry))) (seen right (now (fronts .entry))) (seen right (now (flags .entry)))
-        (seen right (now (samples .exit))) (seen right (now (fronts .exit))) (seen right (now (flags .exit))) ⌝ }
+// The depth at entry e of a row, with the candidate in the entries from `column` on.
+fn tried_at(depths: &[u8], candidate: &[u8], column: usize, e: usize) -> u8
+    requires { ⌜ (e < length (now depths)) × (column + length (now candidate) ≤ length (now depths)) ⌝ }
+    ensures { λ r. ⌜ r ≡ getD (splice (now (depths .entry)) column (now (candidate .entry))) e 0 ⌝ }
 {
-    let mut i = from;
-    while i < to {
-        let x = 4 * (start + i) as u32 + 1024;
-        let shown = pixel::pixel_of(q, x);
-        put(right, samples, i, shown.sample);
-        put(right, fronts, i, shown.front);
-        put(right, flags, i, shown.mark);
-        i += 1;
+    if e < column {
+        return depths[e];
+    }
+    if column + candidate.len() <= e {
+        return depths[e];
+    }
+    candidate[e - column]
+}
+
+// The pair one column to the left.
+fn step(
+    right: bool,
+    table: &[u16; 256],
+    depths: &[u8],
+    candidate: &[u8],
+    column: usize,
+    q: Pair,
+) -> Pair
+    requires { ⌜ (tableOk (now table) ≡ true) × (column + length (now candidate) ≤ length (now depths)) ⌝ }
+    requires { ⌜ (Among right (length (now depths)) q) × (0 < q .column) ⌝ }
+    requires { ⌜ Stands (now table) (seen right (splice (now depths) column (now candidate))) q ⌝ }
+    ensures { λ r. ⌜ (r .column ≡ q .column - 1) × ((r .next ≡ q .here)
+        × ((Among right (length (now (depths .entry))) r) × (Stands (now (table .entry)) (seen right (splice (now (depths .entry)) column (now (candidate .entry)))) r))) ⌝ }
+{
+    let c = q.column - 1;
+    let e = planes::left_of(right, depths.len(), q.column, q.entry);
+    let d0 = tried_at(depths, candidate, column, e);
+    Pair {
+        column: c,
+        entry: e,
+        d0,
+        d1: q.d0,
+        here: place_at(table, c, d0),
+        next: q.here,
     }
 }
 
-// Draws what column c owns below `high` into parts that begin at position `start`; `high` is at most the place of the next column.
-// Answers the lesser of column c's place and `high`.
-fn draw_column(
+// Draws the positions from `start` on, from the right, into parts of just that stretch: columns are stepped to the left until one is placed at
+// most at the position, which is then its owner. Answers the pair that it has come to.
+fn draw_positions(
     right: bool,
     table: &[u16; 256],
     texture: &[u8],
     depths: &[u8],
-    c: usize,
-    high: u32,
+    candidate: &[u8],
+    column: usize,
+    from: Pair,
     start: usize,
     samples: &mut [u8],
     fronts: &mut [u8],
     flags: &mut [u8],
-) -> u32
-    requires { ⌜ Ready (line (now table) (seen right (now texture)) (seen right (now depths))) ⌝ }
-    requires { ⌜ c < length (seen right (now depths)) ⌝ }
-    requires { ⌜ high ≤ nextPlace (now table) (seen right (now depths)) c ⌝ }
-    requires { ⌜ (firstAt high - start ≤ length (now samples)) × ((firstAt high - start ≤ length (now fronts)) × (firstAt high - start ≤ length (now flags))) ⌝ }
-    ensures { λ r. ⌜ (r ≡ min (place (now (table .entry)) (seen right (now (depths .entry))) c) high)
-        × Painted (λ i. ownedPixel (line (now (table .entry)) (seen right (now (texture .entry))) (seen right (now (depths .entry)))) c (quarter (start + i))) (firstAt r - start) (firstAt high - start)
-        (seen right (now (samples .entry))) (seen right (now (fronts .entry))) (seen right (now (flags .entry)))
-        (seen right (now (samples .exit))) (seen right (now (fronts .exit))) (seen right (now (flags .exit))) ⌝ }
+) -> Pair
+    requires { ⌜ (Ready (lineWith right (now table) (now texture) (now depths) column (now candidate))) × (column + length (now candidate) ≤ length (now depths)) ⌝ }
+    requires { ⌜ Ahead right (lineWith right (now table) (now texture) (now depths) column (now candidate)) (start + length (now samples)) from ⌝ }
+    requires { ⌜ (length (now fronts) ≡ length (now samples)) × (length (now flags) ≡ length (now samples)) ⌝ }
+    ensures { λ r. ⌜ SpanDrawn right (lineWith right (now (table .entry)) (now (texture .entry)) (now (depths .entry)) column (now (candidate .entry))) start from r
+        (now (samples .entry)) (now (fronts .entry)) (now (flags .entry)) (now (samples .exit)) (now (fronts .exit)) (now (flags .exit)) ⌝ }
 {
-    let here = place_of(right, table, depths, c);
-    if high <= here {
-        return high;
+    let mut q = from;
+    let mut i = samples.len();
+    while 0 < i {
+        let x = 4 * (start + i) as u32 + 1020;
+        if x < q.here {
+            q = step(right, table, depths, candidate, column, q);
+        } else {
+            i -= 1;
+            let shown = pixel::pixel_of(right, texture, q, x);
+            put_pixel(right, samples, fronts, flags, i, shown);
+        }
     }
-    let q = pair_at(right, table, texture, depths, c);
-    let from = count_before(here, start);
-    let to = count_before(high, start);
-    fill(right, q, start, from, to, samples, fronts, flags);
-    here
+    q
 }
 
-// Draws the positions from `start` up to `high` from the columns below `columns`, from the right, into parts of just that stretch.
-// Any `high` up to the next column's place will do; where it is the limit of column `columns`, what is drawn is the row.
+// The same for each view: the compiler makes a loop for each where the view is known.
+fn draw_left(
+    table: &[u16; 256],
+    texture: &[u8],
+    depths: &[u8],
+    candidate: &[u8],
+    column: usize,
+    from: Pair,
+    start: usize,
+    samples: &mut [u8],
+    fronts: &mut [u8],
+    flags: &mut [u8],
+) -> Pair
+    requires { ⌜ (Ready (lineWith false (now table) (now texture) (now depths) column (now candidate))) × (column + length (now candidate) ≤ length (now depths)) ⌝ }
+    requires { ⌜ Ahead false (lineWith false (now table) (now texture) (now depths) column (now candidate)) (start + length (now samples)) from ⌝ }
+    requires { ⌜ (length (now fronts) ≡ length (now samples)) × (length (now flags) ≡ length (now samples)) ⌝ }
+    ensures { λ r. ⌜ SpanDrawn false (lineWith false (now (table .entry)) (now (texture .entry)) (now (depths .entry)) column (now (candidate .entry))) start from r
+        (now (samples .entry)) (now (fronts .entry)) (now (flags .entry)) (now (samples .exit)) (now (fronts .exit)) (now (flags .exit)) ⌝ }
+{
+    draw_positions(
+        false,
+        table,
+        texture,
+        depths,
+        candidate,
+        column,
+        from,
+        start,
+        samples,
+        fronts,
+        flags,
+    )
+}
+
+fn draw_right(
+    table: &[u16; 256],
+    texture: &[u8],
+    depths: &[u8],
+    candidate: &[u8],
+    column: usize,
+    from: Pair,
+    start: usize,
+    samples: &mut [u8],
+    fronts: &mut [u8],
+    flags: &mut [u8],
+) -> Pair
+    requires { ⌜ (Ready (lineWith true (now table) (now texture) (now depths) column (now candidate))) × (column + length (now candidate) ≤ length (now depths)) ⌝ }
+    requires { ⌜ Ahead true (lineWith true (now table) (now texture) (now depths) column (now candidate)) (start + length (now samples)) from ⌝ }
+    requires { ⌜ (length (now fronts) ≡ length (now samples)) × (length (now flags) ≡ length (now samples)) ⌝ }
+    ensures { λ r. ⌜ SpanDrawn true (lineWith true (now (table .entry)) (now (texture .entry)) (now (depths .entry)) column (now (candidate .entry))) start from r
+        (now (samples .entry)) (now (fronts .entry)) (now (flags .entry)) (now (samples .exit)) (now (fronts .exit)) (now (flags .exit)) ⌝ }
+{
+    draw_positions(
+        true,
+        table,
+        texture,
+        depths,
+        candidate,
+        column,
+        from,
+        start,
+        samples,
+        fronts,
+        flags,
+    )
+}
+
+// Draws the positions from `start` on of a row with the candidate in the entries from `column` on, into parts of just that stretch. The pair
+// `from` may be any whose second column lies past them; drawn is what the columns up to its first show.
 pub fn draw_span(
     right: bool,
     table: &[u16; 256],
     texture: &[u8],
     depths: &[u8],
-    columns: usize,
-    high: u32,
+    candidate: &[u8],
+    column: usize,
+    from: Pair,
     start: usize,
     samples: &mut [u8],
     fronts: &mut [u8],
     flags: &mut [u8],
-)
-    requires { ⌜ Ready (line (now table) (seen right (now texture)) (seen right (now depths))) ⌝ }
-    requires { ⌜ (0 < columns) × (columns ≤ length (seen right (now depths))) ⌝ }
-    requires { ⌜ high ≤ nextPlace (now table) (seen right (now depths)) (columns - 1) ⌝ }
-    requires { ⌜ (length (now samples) ≡ firstAt high - start) × ((length (now fronts) ≡ firstAt high - start) × (length (now flags) ≡ firstAt high - start)) ⌝ }
-    ensures { λ _. ⌜ Painted (λ i. pixelBelow (line (now (table .entry)) (seen right (now (texture .entry))) (seen right (now (depths .entry)))) columns (start + i)) 0 (firstAt high - start)
-        (seen right (now (samples .entry))) (seen right (now (fronts .entry))) (seen right (now (flags .entry)))
-        (seen right (now (samples .exit))) (seen right (now (fronts .exit))) (seen right (now (flags .exit))) ⌝ }
+) -> Pair
+    requires { ⌜ (Ready (lineWith right (now table) (now texture) (now depths) column (now candidate))) × (column + length (now candidate) ≤ length (now depths)) ⌝ }
+    requires { ⌜ Ahead right (lineWith right (now table) (now texture) (now depths) column (now candidate)) (start + length (now samples)) from ⌝ }
+    requires { ⌜ (length (now fronts) ≡ length (now samples)) × (length (now flags) ≡ length (now samples)) ⌝ }
+    ensures { λ r. ⌜ SpanDrawn right (lineWith right (now (table .entry)) (now (texture .entry)) (now (depths .entry)) column (now (candidate .entry))) start from r
+        (now (samples .entry)) (now (fronts .entry)) (now (flags .entry)) (now (samples .exit)) (now (fronts .exit)) (now (flags .exit)) ⌝ }
 {
-    let mut c = columns;
-    let mut top = high;
-    let mut left = samples.len();
-    while 0 < left {
-        c -= 1;
-        top = draw_column(
-            right,
+    if right {
+        draw_right(
             table,
             texture,
             depths,
-            c,
-            top,
+            candidate,
+            column,
+            from,
             start,
             samples,
             fronts,
             flags,
-        );
-        left = count_before(top, start);
+        )
+    } else {
+        draw_left(
+            table,
+            texture,
+            depths,
+            candidate,
+            column,
+            from,
+            start,
+            samples,
+            fronts,
+            flags,
+        )
+    }
+}
+
+// The limit that is held for column c, raised.
+pub fn held_limit(right: bool, limits: &[i16], c: usize) -> u32
+    requires { ⌜ c < length (now limits) ⌝ }
+    ensures { λ r. ⌜ r ≡ raisedOf (getD (seen right (now (limits .entry))) c (pos 0)) ⌝ }
+{
+    let i = planes::entry(right, limits.len(), c);
+    signed::raised_of(limits[i])
+}
+
+// What is taken for the limit of column n, whose place, or the row's end, is `next`.
+pub fn limit_under(right: bool, limits: &[i16], n: usize, next: u32) -> u32
+    ensures { λ r. ⌜ r ≡ limitUnder (seen right (now (limits .entry))) n next ⌝ }
+{
+    if n < limits.len() {
+        let held = held_limit(right, limits, n);
+        least(next, held)
+    } else {
+        next
     }
 }
 
@@ -297,6 +422,41 @@ pub fn row_low(right: bool, table: &[u16; 256], depths: &[u8], a: usize, n: usiz
     least_place(right, table, depths, a, n, top)
 }
 
+// Draws the positions from `start` on of a row as it stands, from the columns below `columns`.
+pub fn draw_part(
+    right: bool,
+    table: &[u16; 256],
+    texture: &[u8],
+    depths: &[u8],
+    columns: usize,
+    start: usize,
+    samples: &mut [u8],
+    fronts: &mut [u8],
+    flags: &mut [u8],
+)
+    requires { ⌜ Ready (line (now table) (now texture) (now depths)) ⌝ }
+    requires { ⌜ (0 < columns) × ((columns ≤ length (now depths)) × (start + length (now samples) ≤ firstAt (nextPlace (now table) (seen right (now depths)) (columns - 1)))) ⌝ }
+    requires { ⌜ (length (now fronts) ≡ length (now samples)) × (length (now flags) ≡ length (now samples)) ⌝ }
+    ensures { λ _. ⌜ Painted (λ i. pixelBelow (line (now (table .entry)) (seen right (now (texture .entry))) (seen right (now (depths .entry)))) columns (start + i)) 0 (length (now (samples .entry)))
+        (seen right (now (samples .entry))) (seen right (now (fronts .entry))) (seen right (now (flags .entry)))
+        (seen right (now (samples .exit))) (seen right (now (fronts .exit))) (seen right (now (flags .exit))) ⌝ }
+{
+    let from = pair_at(right, table, depths, columns - 1);
+    draw_span(
+        right,
+        table,
+        texture,
+        depths,
+        &depths[..0],
+        0,
+        from,
+        start,
+        samples,
+        fronts,
+        flags,
+    );
+}
+
 // Draws the samples, front depths and marks of a whole row.
 pub fn draw_view_row(
     right: bool,
@@ -311,15 +471,12 @@ pub fn draw_view_row(
     requires { ⌜ (length (now samples) ≡ length (now depths)) × ((length (now fronts) ≡ length (now depths)) × (length (now flags) ≡ length (now depths))) ⌝ }
     ensures { λ _. ⌜ Shows (viewRow right (line (now (table .entry)) (now (texture .entry)) (now (depths .entry)))) (now (samples .exit)) (now (fronts .exit)) (now (flags .exit)) ⌝ }
 {
-    let w = depths.len();
-    let high = 4 * w as u32 + 1024;
-    draw_span(
+    draw_part(
         right,
         table,
         texture,
         depths,
-        w,
-        high,
+        depths.len(),
         0,
         samples,
         fronts,

@@ -1,29 +1,17 @@
 // The edge of the signed numbers: the gap of a pair, the limits as they are held, and the change of the total.
-use model::Kind;
 ghost use mathlib.Core.Path.{_≡_};
 ghost use Prim.Native.Nat.{_+_, _≤_, _<_, _^_};
 ghost use lib.IntN.{pos, subℕ, natAbs, _+ℤ_};
-ghost use Rattle.model.specs.Row.{kindOf, signed};
+ghost use Rattle.model.specs.Row.{signed};
 ghost use Rattle.model.specs.Refusals.{within};
 ghost use Rattle.signed.specs.Limits.{raisedOf};
 
-// The kind of a pair follows from its gap.
-pub fn kind_of(gap: i32) -> Kind
-    ensures { λ r. ⌜ r ≡ kindOf gap ⌝ }
-{
-    match gap {
-        ..=0 => Kind::Hidden,
-        1..=8 => Kind::Smooth,
-        9.. => Kind::Torn,
-    }
-}
-
-// The kind of the pair whose places are `here` and `next`.
-pub fn pair_kind(here: u32, next: u32) -> Kind
+// The gap of the pair whose places are `here` and `next`.
+pub fn gap_of(here: u32, next: u32) -> i32
     requires { ⌜ (here < 65536) × (next < 65536) ⌝ }
-    ensures { λ r. ⌜ r ≡ kindOf (subℕ next here) ⌝ }
+    ensures { λ r. ⌜ r ≡ subℕ next here ⌝ }
 {
-    kind_of((next as i32) - (here as i32))
+    (next as i32) - (here as i32)
 }
 
 // A raised limit as it is held.

@@ -1,2 +1,3 @@
--- Laws of the table of squares.
+-- Laws of the table of squares, and of the combined sample by view.
 pub mod Tables
+pub mod Sides

@@ -4,12 +4,12 @@ ghost use mathlib.Core.Path.{_≡_};
 ghost use Prim.Native.Nat.{_*_, _≤_};
 ghost use lib.ListN.{length, getD};
 ghost use Rattle.model.specs.Lists.{sumTo};
-ghost use Rattle.model.specs.Combined.{apart, shared, combinedOf, squareError};
+ghost use Rattle.model.specs.Combined.{apart, shared, squareError};
 ghost use Rattle.sums.specs.Squares.{Squares};
-ghost use Rattle.sums.specs.Sides.{paired};
+ghost use Rattle.sums.specs.Sides.{ownShare, prefersOwn, paired};
 
 // The squares of 0 to 255.
-const SQUARES: [u32; 256] = [
+const SQUARES: [u16; 256] = [
     0,
     1,
     4,
@@ -269,7 +269,7 @@ const SQUARES: [u32; 256] = [
 ];
 
 // The table of squares, bound once by an entry and lent downward.
-pub fn squares() -> [u32; 256]
+pub fn squares() -> [u16; 256]
     ensures { λ r. ⌜ Squares r ⌝ }
 {
     SQUARES
@@ -283,11 +283,11 @@ fn apart(a: u8, b: u8) -> u8
 }
 
 // The squared error of two samples.
-pub fn square_error(squares: &[u32; 256], a: u8, b: u8) -> u32
+pub fn square_error(squares: &[u16; 256], a: u8, b: u8) -> u32
     requires { ⌜ Squares (now squares) ⌝ }
     ensures { λ r. ⌜ (r ≡ squareError a b) × (r ≤ 65025) ⌝ }
 {
-    squares[apart(a, b) as usize]
+    squares[apart(a, b) as usize] as u32
 }
 
 // Two samples mixed by the share of the right one, in sixty-fourths.
@@ -298,30 +298,31 @@ fn shared(share: u8, left: u8, right: u8) -> u8
     ((left as u32 * (64 - share) as u32 + right as u32 * share as u32 + 32) / 64) as u8
 }
 
-// The combined sample of a position that the views show as `left` and `right`.
-pub fn combined(share: u8, tolerance: u8, left: Pixel, right: Pixel) -> u8
+// The part of a view's own sample where both views are mixed, in sixty-fourths.
+fn own_share(right: bool, share: u8) -> u8
     requires { ⌜ share ≤ 64 ⌝ }
-    ensures { λ r. ⌜ r ≡ combinedOf share tolerance left right ⌝ }
+    ensures { λ r. ⌜ (r ≡ ownShare right share) × (r ≤ 64) ⌝ }
 {
-    if left.mark == 0 {
-        if right.mark == 0 {
-            if apart(left.front, right.front) <= tolerance {
-                return shared(share, left.sample, right.sample);
-            }
-            if right.front < left.front {
-                return left.sample;
-            }
-            return right.sample;
+    if right { share } else { 64 - share }
+}
+
+// Whether the view's own sample is taken, where the two are not mixed.
+fn prefers(right: bool, own: Pixel, other: Pixel) -> bool
+    ensures { λ r. ⌜ r ≡ prefersOwn right own other ⌝ }
+{
+    if own.mark == 0 {
+        if other.mark == 0 {
+            other.front < own.front
+        } else {
+            true
         }
-        return left.sample;
+    } else {
+        if other.mark == 0 {
+            false
+        } else {
+            own.front as u32 + right as u32 <= other.front as u32
+        }
     }
-    if right.mark == 0 {
-        return right.sample;
-    }
-    if left.front <= right.front {
-        return left.sample;
-    }
-    right.sample
 }
 
 // The combined sample of a view's own pixel and the other view's.
@@ -329,15 +330,21 @@ pub fn paired(right: bool, share: u8, tolerance: u8, own: Pixel, other: Pixel) -
     requires { ⌜ share ≤ 64 ⌝ }
     ensures { λ r. ⌜ r ≡ paired right share tolerance own other ⌝ }
 {
-    if right {
-        combined(share, tolerance, other, own)
+    if own.mark | other.mark == 0 {
+        if apart(own.front, other.front) <= tolerance {
+            let part = own_share(right, share);
+            return shared(part, other.sample, own.sample);
+        }
+    }
+    if prefers(right, own, other) {
+        own.sample
     } else {
-        combined(share, tolerance, own, other)
+        other.sample
     }
 }
 
 // The sum of the squared errors of a row.
-pub fn row_error(squares: &[u32; 256], combined: &[u8], reference: &[u8]) -> u32
+pub fn row_error(squares: &[u16; 256], combined: &[u8], reference: &[u8]) -> u32
     requires { ⌜ Squares (now squares) ⌝ }
     requires { ⌜ (length (now combined) ≡ length (now reference)) × (length (now combined) ≤ 4096) ⌝ }
     ensures { λ r. ⌜ (r ≡ sumTo (λ i. squareError (getD (now (combined .entry)) i 0) (getD (now (reference .entry)) i 0)) (length (now (combined .entry)))) × (r ≤ 65025 * length (now (combined .entry))) ⌝ }

@@ -3,21 +3,23 @@
 --     tried-under, tried-inside, tried-beyond   the depth of a column before, in and after the candidate
 --     tried-place                               the place of a column of the candidate
 --     tried-edited                              an edit of the candidate's columns
+--     part-within, part-read                    a column of the part that it replaces
 --     seen-candidate                            a candidate in the row as it lies
 use Prim.Native.Nat.{ℕ, _+_, _-_, _<_, _≤_}
-use mathlib.Core.Path.{_≡_, sym, ap, _∙_}
+use mathlib.Core.Path.{_≡_, refl, sym, ap, _∙_}
 use mathlib.Core.Bool.{Bool}
 use mathlib.Core.List.{List}
 use native.Mathlib.Omega.{arith}
 use lib.ListN.{length, getD}
 use Rattle.model.specs.Row.{place, quarter}
-use Rattle.model.specs.Views.{seen}
+use Rattle.model.specs.Views.{seen, entryOf}
 use Rattle.model.specs.Span.{firstColumn}
 use Rattle.model.proofs.Spans.{EditedRow}
-use Rattle.model.proofs.Views.{length-seen}
+use Rattle.model.proofs.Views.{length-seen, entry-within}
 use Rattle.planes.specs.Parts.{splice}
 use Rattle.planes.proofs.Splices.{length-splice, splice-under, splice-inside, splice-beyond}
-use Rattle.planes.proofs.SeenParts.{first-fits, first-first, seen-splice}
+use Rattle.planes.proofs.Entries.{read-at}
+use Rattle.planes.proofs.SeenParts.{first-fits, first-first, part-entry, seen-splice}
 
 module _ (r : Bool) (d x : List ℕ) (first : ℕ) (fits : first + length x ≤ length d) where
   same-x : length (seen r x) ≡ length x
@@ -54,6 +56,17 @@ module _ (r : Bool) (d x : List ℕ) (first : ℕ) (fits : first + length x ≤ 
         under = tried-under;
         beyond = λ c h. tried-beyond c (omega arith);
       }
+
+-- a column of the part that the candidate replaces, read at its entry
+module _ (r : Bool) (d : List ℕ) (first n i : ℕ) {column k : ℕ} (fits : first + n ≤ length d) (in-part : i < n) (part : column ≡ firstColumn r (length d) first n) (entry : k ≡ entryOf r n i) where
+  part-at : column + k ≡ entryOf r (length d) (first + i)
+  part-at = rw (part, entry) (part-entry r (length d) first n i fits in-part)
+
+  pub part-within : column + k < length d
+  part-within = rw part-at (entry-within r (length d) (first + i) (omega arith))
+
+  pub part-read : getD d (column + k) 0 ≡ getD (seen r d) (first + i) 0
+  part-read = read-at 0 r d refl (omega arith) part-at
 
 pub seen-candidate : (r : Bool) (d x : List ℕ) (w a n : ℕ) → length d ≡ w → length x ≡ n → a + n ≤ w → seen r (splice d a x) ≡ splice (seen r d) (firstColumn r w a n) (seen r x)
 seen-candidate r d x w a n ed ex h =

@@ -2,6 +2,6 @@
 pub mod Candidates
 pub mod Positions
 pub mod Rows
-pub mod Pass
+pub mod Strips
 pub mod Blocks
 pub mod Sound

@@ -1,6 +1,6 @@
 -- What the two sums of a row's trial tell.
---     below-owned                                 what the columns below n show where one of them is the owner
---     summed-none, summed-next, summed-join, summed-change      the sums grow, to the right or to the left
+--     summed-none, summed-join, summed-change     the sums grow to the left
+--     measured-none, measured-next, measured-summed     what a strip measures
 --     total-positions                             a row's total, position by position as the view reads the row
 --     row-change                                  where the row holds the truth the sums tell the change of its total
 --     row-trial                                   so they are the row's answer
@@ -13,24 +13,22 @@ use native.Mathlib.Omega.{arith}
 use lib.ListN.{length, getD}
 use Rattle.model.specs.declared.Pixel.{Pixel}
 use Rattle.model.specs.Lists.{sumTo}
-use Rattle.model.specs.Row.{Line, width, place, placeIn, limit, quarter, ownedPixel, pixelAt}
+use Rattle.model.specs.Row.{Line, width, place, placeIn, limit, pixel, pixelAt}
 use Rattle.model.specs.Views.{seen, entryOf}
 use Rattle.model.specs.Combined.{squareError}
-use Rattle.model.proofs.Owners.{Owns, owner-is, place-zero}
 use Rattle.model.proofs.Spans.{edited-moved, moved-limit, span-pixel}
-use Rattle.model.proofs.Sums.{sum-next, sum-same, sum-part, sum-turn, sum-change}
+use Rattle.model.proofs.Sums.{sum-next, sum-same, sum-join, sum-part, sum-turn, sum-change}
 use Rattle.model.proofs.Views.{length-seen, entry-within, entry-entry}
-use Rattle.planes.specs.Parts.{splice}
+use Rattle.model.specs.Span.{firstColumn}
+use Rattle.planes.specs.Parts.{splice, Painted}
+use Rattle.planes.proofs.Entries.{read-at}
+use Rattle.planes.proofs.SeenParts.{part-entry}
 use Rattle.row.specs.Drawing.{firstAt, pixelBelow}
 use Rattle.row.proofs.Below.{below-pixel}
-use Rattle.trial.specs.Trial.{spanStart, spanStop, Own, Around, standing, tried, combinedWith, errorWith, shownIn, rowTotal, RowHeld, heldError, shownError, Summed, covered, RowTrial}
+use Rattle.row.proofs.Limits.{limit-true}
+use Rattle.trial.specs.Trial.{spanStart, spanStop, Own, Around, standing, tried, combinedWith, errorWith, shownIn, rowTotal, RowHeld, heldError, shownError, Summed, Measured, covered, RowTrial}
 use Rattle.trial.proofs.Candidates.{tried-edited}
-use Rattle.trial.proofs.Positions.{stop-within, limit-true, outside-span}
-
-pub below-owned : (l : Line) (n c p : ℕ) → Owns (placeIn l) n (quarter p) c → pixelBelow l n p ≡ ownedPixel l c (quarter p)
-unfolding pixelBelow
-below-owned l n c p o =
-    ap (λ (e : ℕ). ownedPixel l e (quarter p)) (owner-is (placeIn l) (quarter p) n c (place-zero (l .table) (l .depths) p) o)
+use Rattle.trial.proofs.Positions.{stop-within, outside-span}
 
 -- ---- the two sums
 
@@ -38,16 +36,6 @@ pub summed-none : (o : Around) (w : ℕ) (g : ℕ → Pixel) (a : ℕ) → Summe
 summed-none o w g a = record { olds = omega arith; news = omega arith; old-most = omega arith; new-most = omega arith }
 
 module _ {o : Around} {w : ℕ} {g : ℕ → Pixel} {a p old new : ℕ} (t : Summed o w g a p old new) where
-  -- one position more
-  pub summed-next : {x y : ℕ} → x ≡ heldError o w p → x ≤ 65025 → y ≡ shownError o w g p → y ≤ 65025 → Summed o w g a (p + 1) (old + x) (new + y)
-  summed-next ex hx ey hy =
-      record {
-        olds = omega (arith, sum-next (heldError o w) p, t .olds);
-        news = omega (arith, sum-next (shownError o w g) p, t .news);
-        old-most = omega (arith, t .old-most);
-        new-most = omega (arith, t .new-most);
-      }
-
   -- a stretch before it
   pub summed-join : {z old′ new′ : ℕ} → Summed o w g z a old′ new′ → Summed o w g z p (old + old′) (new + new′)
   summed-join s =
@@ -73,13 +61,59 @@ module _ {o : Around} {w : ℕ} {g : ℕ → Pixel} {a p old new : ℕ} (t : Sum
         new-most = t .new-most;
       }
 
--- ---- the row's total
+-- ---- what a strip measures
+
+pub measured-none : (o : Around) (from : ℕ) (g : ℕ → Pixel) → Measured o from 0 g 0 0
+unfolding sumTo
+measured-none o from g = record { olds = refl; news = refl; old-most = omega arith; new-most = omega arith }
+
+pub measured-next : {o : Around} {from k : ℕ} {g : ℕ → Pixel} {old new x y : ℕ} → Measured o from k g old new → x ≡ squareError (getD (o .combined) (from + k) 0) (getD (o .reference) (from + k) 0) → x ≤ 65025 → y ≡ errorWith o (g k) (from + k) → y ≤ 65025 → Measured o from (k + 1) g (old + x) (new + y)
+measured-next {o} {from} {k} {g} t ex hx ey hy =
+    record {
+      olds = rw (t .olds, ex) (sym (sum-next (λ i. squareError (getD (o .combined) (from + i) 0) (getD (o .reference) (from + i) 0)) k));
+      news = rw (t .news, ey) (sym (sum-next (λ i. errorWith o (g i) (from + i)) k));
+      old-most = omega (arith, t .old-most);
+      new-most = omega (arith, t .new-most);
+    }
 
 -- a sum over entries, position by position as a view reads the row
 sum-seen : (r : Bool) (f : ℕ → ℕ) (w : ℕ) → sumTo (λ p. f (entryOf r w p)) w ≡ sumTo f w
 unfolding entryOf
 sum-seen true f w = sum-turn f w
 sum-seen false f w = refl
+
+-- the sum over the entries of n positions from `start` on, in their own order
+sum-entries : (r : Bool) (w start n at : ℕ) (f g : ℕ → ℕ) → start + n ≤ w → at ≡ firstColumn r w start n → ((i : ℕ) → i < n → f (entryOf r n i) ≡ g (start + i)) → sumTo f n + sumTo g start ≡ sumTo g (start + n)
+sum-entries r w start n at f g h e k =
+    omega (arith, sum-join g start n, sum-seen r f n, sum-same (λ i. f (entryOf r n i)) (λ i. g (start + i)) n k)
+
+module _ (o : Around) (w start n at : ℕ) (fits : start + n ≤ w) (part : at ≡ firstColumn (o .right) w start n) where
+  place-of : (i : ℕ) → i < n → at + entryOf (o .right) n i ≡ entryOf (o .right) w (start + i)
+  place-of i k = rw part (part-entry (o .right) w start n i fits k)
+
+  -- a strip that is painted with the pixels g of n positions from `start` on, and measured
+  pub measured-summed : (g : ℕ → Pixel) (s f m : List ℕ) {x y z : List ℕ} {old new : ℕ} → length s ≡ n → length f ≡ n → length m ≡ n → Painted (λ i. g (start + i)) 0 n x y z (seen (o .right) s) (seen (o .right) f) (seen (o .right) m) → Measured o at n (λ k. pixel (getD s k 0) (getD m k 0) (getD f k 0)) old new → Summed o w g start (start + n) old new
+  unfolding heldError shownError
+  measured-summed g s f m ls lf lm p t =
+      let r = o .right in
+      let held : ℕ → ℕ = λ i. squareError (getD (o .combined) i 0) (getD (o .reference) i 0) in
+      let shown : ℕ → ℕ → Pixel → ℕ = λ k i q. errorWith o q i in
+      let strip : ℕ → Pixel = λ k. pixel (getD s k 0) (getD m k 0) (getD f k 0) in
+      let pixels : (i : ℕ) → i < n → strip (entryOf r n i) ≡ g (start + i) = λ i k.
+      rw (
+        read-at 0 r s ls k refl ∙ p .samples .inside i (omega arith) k,
+        read-at 0 r m lm k refl ∙ p .marks .inside i (omega arith) k,
+        read-at 0 r f lf k refl ∙ p .fronts .inside i (omega arith) k,
+      ) in
+      record {
+        olds = rw (t .olds) (sum-entries r w start n at (λ k. held (at + k)) (heldError o w) fits part (λ i k. ap held (place-of i k)));
+        news = rw (t .news) (sum-entries r w start n at (λ k. errorWith o (strip k) (at + k)) (shownError o w g) fits part
+            (λ i k. ap (λ (q : Pixel). errorWith o q (at + entryOf r n i)) (pixels i k) ∙ ap (errorWith o (g (start + i))) (place-of i k)));
+        old-most = omega (arith, t .old-most);
+        new-most = omega (arith, t .new-most);
+      }
+
+-- ---- the row's total
 
 total-positions : (o : Around) (l : Line) → rowTotal o l ≡ sumTo (shownError o (width l) (pixelAt l)) (width l)
 unfolding rowTotal shownError

@@ -3,12 +3,11 @@
 --     rows-true             the block's rows hold the truth
 --     total-row             a row's share of the fresh total, as the trial has it
 --     trial-sound           so the two sums of a trial differ by the change
-use Prim.Native.Nat.{ℕ, zero, suc, _+_, _-_, _*_, _<_, _≤_}
+use Prim.Native.Nat.{ℕ, _+_, _-_, _*_, _<_, _≤_}
 use mathlib.Core.Path.{_≡_, refl, sym, ap, subst, _∙_}
 use mathlib.Core.Bool.{Bool, true, false, not}
 use mathlib.Core.List.{List}
 use native.Mathlib.Omega.{arith}
-use native.Mathlib.Nat.{add-zero, add-suc}
 use lib.ListN.{length, getD}
 use lib.IntN.{ℤ, pos}
 use Rattle.model.specs.declared.Settings.{Settings}
@@ -24,7 +23,7 @@ use Rattle.model.specs.Fresh.{lineOf, freshRow, freshView, freshSample, fresh, 
 use Rattle.model.specs.Blocks.{inRows, written, writtenPlane}
 use Rattle.model.specs.Span.{firstColumn}
 use Rattle.model.proofs.Lists.{getD-listOf, getD-row, length-row, rows-apart}
-use Rattle.model.proofs.Sums.{sum-same, sum-change}
+use Rattle.model.proofs.Sums.{sum-same, sum-join, sum-change}
 use Rattle.model.proofs.Views.{seenLine, length-seen, seen-seen, shown-view}
 use Rattle.model.proofs.Fresh.{DepthsSized, depths-length, wide, row-fresh-samples, row-fresh-fronts, row-fresh-limits, mark-fresh, row-fresh-combined, view-fresh}
 use Rattle.model.proofs.Written.{rows-under, rows-beyond, candidate-fits, written-row-in, written-own}
@@ -40,11 +39,6 @@ use Rattle.trial.proofs.Candidates.{seen-candidate}
 
 -- ---- sums
 
-sum-from : (f : ℕ → ℕ) (a n : ℕ) → sumTo (λ i. f (a + i)) n + sumTo f a ≡ sumTo f (a + n)
-unfolding sumTo
-sum-from f a zero = rw (add-zero a) (omega arith)
-sum-from f a (suc n) = rw (add-suc a n) (omega (arith, sum-from f a n))
-
 -- f before and g after agree outside the n rows from a on; p and q are what they are there, and old and new tell the change of these
 sum-part-change : (f g p q : ℕ → ℕ) (a n h old new : ℕ) → a + n ≤ h → ((i : ℕ) → i < a → g i ≡ f i) → ((i : ℕ) → a + n ≤ i → i < h → g i ≡ f i) → ((i : ℕ) → i < n → p i ≡ f (a + i)) → ((i : ℕ) → i < n → q i ≡ g (a + i)) → sumTo q n + old ≡ sumTo p n + new → sumTo g h + old ≡ sumTo f h + new
 sum-part-change f g p q a n h old new k before after pf qg e =
@@ -52,7 +46,7 @@ sum-part-change f g p q a n h old new k before after pf qg e =
     let eq = sum-same q (λ i. g (a + i)) n qg in
     let all =
     sum-change f g f g a (a + n) h (sumTo (λ i. f (a + i)) n) (sumTo (λ i. g (a + i)) n) (omega arith) k before after (λ i x y. refl) (λ i x y. refl)
-    (sum-from f a n) (sum-from g a n) in
+    (omega (arith, sum-join f a n)) (omega (arith, sum-join g a n)) in
     omega (arith, ep, eq, all)
 
 -- ---- what a view is lent

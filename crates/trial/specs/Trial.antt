@@ -2,12 +2,11 @@
 --
 -- The held planes may be anything. The sums below are exact for any of them, and end where the span ends by what is held;
 -- that they tell the change of the total is promised where the planes hold the truth on the block's rows.
-use Prim.Native.Nat.{ℕ, _+_, _-_, _*_, _<_, _≤_, min}
+use Prim.Native.Nat.{ℕ, _+_, _-_, _*_, _<_, _≤_}
 use mathlib.Core.Path.{_≡_}
-use mathlib.Core.Bool.{Bool, cond}
+use mathlib.Core.Bool.{Bool}
 use mathlib.Core.List.{List}
 use lib.ListN.{length, getD}
-use lib.Dec.{leb, ltb}
 use lib.IntN.{ℤ, pos}
 use Rattle.model.specs.declared.Pixel.{Pixel}
 use Rattle.model.specs.declared.Block.{Block}
@@ -18,12 +17,11 @@ use Rattle.model.specs.Marks.{markBytes}
 use Rattle.model.specs.Combined.{squareError}
 use Rattle.model.specs.Span.{spanLow, firstColumn}
 use Rattle.planes.specs.Parts.{splice}
-use Rattle.signed.specs.Limits.{raisedOf}
 use Rattle.marks.specs.Puts.{heldPixel}
 use Rattle.sums.specs.Sides.{paired}
 use Rattle.pixel.specs.declared.Pair.{Pair}
 use Rattle.pixel.specs.Pairs.{nextPlace}
-use Rattle.row.specs.Drawing.{firstAt}
+use Rattle.row.specs.Drawing.{firstAt, limitUnder, pixelBelow, Ahead, Passed}
 
 -- ---- the span's positions
 
@@ -31,27 +29,9 @@ use Rattle.row.specs.Drawing.{firstAt}
 unfoldable pub spanStart : (ℕ → ℕ) → (ℕ → ℕ) → ℕ → ℕ → ℕ
 spanStart f g first n = firstAt (spanLow f g first (first + n - 1))
 
--- What is taken for the limit of column n, whose place, or the row's end, is `next`: the held limits e may say anything, and a limit past
--- `next` is not believed.
-unfoldable pub limitUnder : List ℤ → ℕ → ℕ → ℕ
-limitUnder e n next = cond (ltb n (length e)) (min next (raisedOf (getD e n (pos 0)))) next
-
 -- the position after the last of the span of an edit of columns below n, by what is held
 abbrev pub spanStop : List ℕ → List ℕ → List ℤ → ℕ → ℕ
 spanStop t d e n = firstAt (limitUnder e n (nextPlace t d (n - 1)))
-
--- columns c and c + 1 of a row, from their depths and places
-unfoldable pub pairWith : List ℕ → ℕ → ℕ → ℕ → ℕ → ℕ → Pair
-pairWith texture c d0 d1 here next =
-    record {
-      s0 = getD texture c 0;
-      s1 = getD texture (c + 1) 0;
-      d0 = d0;
-      d1 = d1;
-      here = here;
-      next = next;
-      last = leb (length texture) (c + 1);
-    }
 
 -- ---- one row
 
@@ -139,6 +119,19 @@ pub record Summed (o : Around) (w : ℕ) (g : ℕ → Pixel) (start stop old new
   pub old-most : old + 65025 * start ≤ 65025 * stop
   pub new-most : new + 65025 * start ≤ 65025 * stop
 
+-- What is measured of n entries of a row from `from` on, where the view shows the pixels g: their squared errors, as held and as shown.
+pub record Measured (o : Around) (from n : ℕ) (g : ℕ → Pixel) (old new : ℕ) : Type 0 where
+  pub olds : old ≡ sumTo (λ k. squareError (getD (o .combined) (from + k) 0) (getD (o .reference) (from + k) 0)) n
+  pub news : new ≡ sumTo (λ k. errorWith o (g k) (from + k)) n
+  pub old-most : old ≤ 65025 * n
+  pub new-most : new ≤ 65025 * n
+
+-- What is tried of the positions from `start` up to `stop`, drawn from the pair q of the row l; from the pair r those before them can be drawn.
+pub record Stretch (o : Around) (l : Line) (start stop : ℕ) (q r : Pair) (old new : ℕ) : Type 0 where
+  pub summed : Summed o (width l) (pixelBelow l (q .column + 1)) start stop old new
+  pub ahead : Ahead (o .right) l start r
+  pub passed : Passed l q r start
+
 -- how many positions the trial of a row covers
 unfoldable pub covered : Bool → Own → List ℕ → ℕ → ℕ
 covered right v x first =
@@ -161,9 +154,6 @@ abbrev pub aroundRow : ℕ → Around → ℕ → Around
 aroundRow w o y =
     around (o .right) (o .share) (o .tolerance) (rowOf (o .samples) w y) (rowOf (o .fronts) w y) (rowOf (o .marks) (markBytes w) y)
     (rowOf (o .combined) w y) (rowOf (o .reference) w y)
-
-abbrev pub blockOf : ℕ → ℕ → ℕ → ℕ → Block
-blockOf column row width height = record { column = column; row = row; width = width; height = height }
 
 -- Row y lies within the planes, which are w wide.
 pub record OwnRowIn (w y : ℕ) (v : Own) : Type 0 where

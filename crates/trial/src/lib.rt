@@ -1,33 +1,32 @@
-// What a candidate would change: one pass from the right over each of the block's rows, over the span alone.
+// What a candidate would change: each of the block's rows drawn over the span alone, strip by strip from the right, and measured.
 use model::Pixel;
 use pixel::Pair;
-ghost use Prim.Native.Nat.{_+_, _-_, _*_, _/_, _≤_, _<_, max};
+ghost use Prim.Native.Nat.{_+_, _-_, _*_, _/_, _≤_, _<_, min};
 ghost use mathlib.Core.Path.{_≡_};
 ghost use mathlib.Core.Bool.{true};
 ghost use lib.ListN.{length, getD};
 ghost use Rattle.model.specs.Lists.{rowOf};
-ghost use Rattle.model.specs.Row.{place, quarter};
+ghost use Rattle.model.specs.Row.{place, pixel};
 ghost use Rattle.model.specs.Views.{seen};
+ghost use Rattle.model.specs.Span.{firstColumn};
 ghost use Rattle.model.specs.Refusals.{tableOk};
 ghost use Rattle.model.specs.Combined.{squareError};
-ghost use Rattle.planes.specs.Parts.{splice};
+ghost use Rattle.planes.specs.Parts.{splice, blockOf};
 ghost use Rattle.marks.specs.Puts.{heldPixel};
 ghost use Rattle.sums.specs.Squares.{Squares};
 ghost use Rattle.sums.specs.Sides.{paired};
-ghost use Rattle.pixel.specs.Pairs.{pixelOf};
-ghost use Rattle.row.specs.Drawing.{firstAt};
+ghost use Rattle.row.specs.Drawing.{Ready, pixelBelow, lineWith, Ahead};
 ghost use Rattle.trial.specs.Trial.{
   Beside,
   spanStart,
-  limitUnder,
-  pairWith,
   around,
   own,
   Summed,
+  Measured,
+  Stretch,
   RowTrial,
   ownRow,
   aroundRow,
-  blockOf,
   OwnRowIn,
   AroundRowIn,
   Sized,
@@ -35,97 +34,57 @@ ghost use Rattle.trial.specs.Trial.{
   BlockTrial,
 };
 
-// Squared errors of some positions of a row: as held, and as the trial shows them.
+// The squared errors of some positions: as held, and as the trial shows them.
 pub struct Sums {
-    pub old: u32,
-    pub new: u32,
-}
-
-// The same of a block's rows.
-pub struct Totals {
     pub old: u64,
     pub new: u64,
 }
 
-// The depth of column c, with the candidate in the columns from `first` on.
-fn tried_at(right: bool, depths: &[u8], candidate: &[u8], first: usize, c: usize) -> u8
-    requires { ⌜ first + length (now candidate) ≤ length (now depths) ⌝ }
-    ensures { λ r. ⌜ r ≡ getD (splice (seen right (now (depths .entry))) first (seen right (now (candidate .entry)))) c 0 ⌝ }
-{
-    if c < first {
-        return row::at(right, depths, c);
-    }
-    let k = c - first;
-    if k < candidate.len() {
-        row::at(right, candidate, k)
-    } else {
-        row::at(right, depths, c)
-    }
+// The same of a strip of a row, and the pair from which the positions before it are drawn.
+struct Strip {
+    old: u64,
+    new: u64,
+    pair: Pair,
 }
 
-// Columns c and c + 1, whose depths and places are known.
-fn pair_with(right: bool, texture: &[u8], c: usize, d0: u8, d1: u8, here: u32, next: u32) -> Pair
-    requires { ⌜ (c < length (now texture)) × (length (now texture) ≤ 4096) ⌝ }
-    ensures { λ r. ⌜ r ≡ pairWith (seen right (now (texture .entry))) c d0 d1 here next ⌝ }
-{
-    Pair {
-        s0: row::at(right, texture, c),
-        s1: row::at(right, texture, c + 1),
-        d0,
-        d1,
-        here,
-        next,
-        last: texture.len() <= c + 1,
-    }
-}
-
-// The greater of two positions.
-fn greater(a: usize, b: usize) -> usize
-    ensures { λ r. ⌜ r ≡ max a b ⌝ }
-{
-    if a < b { b } else { a }
-}
-
-// The first position that the candidate can change.
+// The first position that the candidate can change: the least of the old and the new places, column by column from the right.
 fn span_start(
     right: bool,
     table: &[u16; 256],
     depths: &[u8],
     candidate: &[u8],
     first: usize,
+    column: usize,
 ) -> usize
     requires { ⌜ tableOk (now table) ≡ true ⌝ }
     requires { ⌜ (first + length (now candidate) ≤ length (now depths)) × (length (now depths) ≤ 4096) ⌝ }
-    requires { ⌜ 0 < length (now candidate) ⌝ }
+    requires { ⌜ (0 < length (now candidate)) × (column ≡ firstColumn right (length (now depths)) first (length (now candidate))) ⌝ }
     ensures { λ r. ⌜ r ≡ spanStart (place (now (table .entry)) (seen right (now (depths .entry)))) (place (now (table .entry)) (splice (seen right (now (depths .entry))) first (seen right (now (candidate .entry))))) first (length (now (candidate .entry))) ⌝ }
 {
+    let near = row::column_before(first);
+    let mut low = row::place_of(right, table, depths, near);
     let mut n = candidate.len();
-    let mut low = row::row_low(right, table, depths, first, n);
     while 0 < n {
         n -= 1;
-        let here = row::place_at(table, first + n, row::at(right, candidate, n));
-        low = row::least(here, low);
+        let k = planes::entry(right, candidate.len(), n);
+        let old = row::place_at(table, first + n, depths[column + k]);
+        let new = row::place_at(table, first + n, candidate[k]);
+        low = row::least(row::least(old, new), low);
     }
     row::first_at(low)
 }
 
-// The position after the last that the candidate can change, where n is the column after the candidate and `next` its place.
-fn span_stop(right: bool, limits: &[i16], n: usize, next: u32) -> usize
-    ensures { λ r. ⌜ r ≡ firstAt (limitUnder (seen right (now (limits .entry))) n next) ⌝ }
+// A squared error in a sum.
+fn wide(x: u32) -> u64
+    ensures { λ r. ⌜ r ≡ x ⌝ }
 {
-    if n < limits.len() {
-        let i = row::entry(right, limits.len(), n);
-        let held = signed::raised_of(limits[i]);
-        row::first_at(row::least(next, held))
-    } else {
-        row::first_at(next)
-    }
+    x as u64
 }
 
 // The squared error of the combined sample at entry i, where the view shows q.
 fn error_with(
     right: bool,
-    squares: &[u32; 256],
+    squares: &[u16; 256],
     share: u8,
     tolerance: u8,
     samples: &[u8],
@@ -147,10 +106,10 @@ fn error_with(
     )
 }
 
-// The sums over the positions from `from` up to `top`, which the pair's first column owns.
-fn cover(
+// The sums over the entries of a row from `from` on, where the view shows what the strip holds: its samples s, front depths f and marks m.
+fn measure(
     right: bool,
-    squares: &[u32; 256],
+    squares: &[u16; 256],
     share: u8,
     tolerance: u8,
     samples: &[u8],
@@ -158,24 +117,29 @@ fn cover(
     marks: &[u8],
     combined: &[u8],
     reference: &[u8],
-    q: Pair,
     from: usize,
-    top: usize,
+    s: &[u8],
+    f: &[u8],
+    m: &[u8],
 ) -> Sums
     requires { ⌜ (Squares (now squares)) × (share ≤ 64) ⌝ }
     requires { ⌜ Beside (length (now reference)) (now samples) (now fronts) (now marks) (now combined) ⌝ }
-    requires { ⌜ (from ≤ top) × ((top ≤ length (now reference)) × (length (now reference) ≤ 4096)) ⌝ }
-    requires { ⌜ (firstAt (q .here) ≤ from) × ((top ≤ firstAt (q .next)) × (q .next < 65536)) ⌝ }
-    ensures { λ r. ⌜ Summed (around right share tolerance (now (samples .entry)) (now (fronts .entry)) (now (marks .entry)) (now (combined .entry)) (now (reference .entry))) (length (now (reference .entry))) (λ p. pixelOf q (quarter p)) from top (r .old) (r .new) ⌝ }
+    requires { ⌜ (from + length (now s) ≤ length (now reference)) × (length (now reference) ≤ 4096) ⌝ }
+    requires { ⌜ (length (now f) ≡ length (now s)) × (length (now m) ≡ length (now s)) ⌝ }
+    ensures { λ r. ⌜ Measured (around right share tolerance (now (samples .entry)) (now (fronts .entry)) (now (marks .entry)) (now (combined .entry)) (now (reference .entry)))
+        from (length (now (s .entry))) (λ k. pixel (getD (now (s .entry)) k 0) (getD (now (m .entry)) k 0) (getD (now (f .entry)) k 0)) (r .old) (r .new) ⌝ }
 {
-    let w = reference.len();
-    let mut old = 0u32;
-    let mut new = 0u32;
-    let mut p = from;
-    while p < top {
-        let i = row::entry(right, w, p);
-        old += sums::square_error(squares, combined[i], reference[i]);
-        new += error_with(
+    let mut old = 0u64;
+    let mut new = 0u64;
+    let mut k = 0;
+    while k < s.len() {
+        let i = from + k;
+        let shown = Pixel {
+            sample: s[k],
+            mark: m[k],
+            front: f[k],
+        };
+        let error = error_with(
             right,
             squares,
             share,
@@ -184,19 +148,215 @@ fn cover(
             fronts,
             marks,
             reference,
-            pixel::pixel_of(q, 4 * p as u32 + 1024),
+            shown,
             i,
         );
-        p += 1;
+        new += wide(error);
+        old += wide(sums::square_error(squares, combined[i], reference[i]));
+        k += 1;
     }
     Sums { old, new }
 }
 
-// The two sums of a row's trial, in one pass from the right over the positions that the candidate can change.
+// The trial of the positions from `start` on: drawn into the strip, samples s, front depths f and marks m, then measured.
+fn trial_into(
+    right: bool,
+    table: &[u16; 256],
+    squares: &[u16; 256],
+    share: u8,
+    tolerance: u8,
+    texture: &[u8],
+    depths: &[u8],
+    candidate: &[u8],
+    column: usize,
+    samples: &[u8],
+    fronts: &[u8],
+    marks: &[u8],
+    combined: &[u8],
+    reference: &[u8],
+    from: Pair,
+    start: usize,
+    s: &mut [u8],
+    f: &mut [u8],
+    m: &mut [u8],
+) -> Strip
+    requires { ⌜ (Squares (now squares)) × (share ≤ 64) ⌝ }
+    requires { ⌜ Beside (length (now reference)) (now samples) (now fronts) (now marks) (now combined) ⌝ }
+    requires { ⌜ (Ready (lineWith right (now table) (now texture) (now depths) column (now candidate))) × ((column + length (now candidate) ≤ length (now depths)) × (length (now reference) ≡ length (now depths))) ⌝ }
+    requires { ⌜ (Ahead right (lineWith right (now table) (now texture) (now depths) column (now candidate)) (start + length (now s)) from) × ((length (now f) ≡ length (now s)) × (length (now m) ≡ length (now s))) ⌝ }
+    ensures { λ r. ⌜ Stretch (around right share tolerance (now (samples .entry)) (now (fronts .entry)) (now (marks .entry)) (now (combined .entry)) (now (reference .entry)))
+        (lineWith right (now (table .entry)) (now (texture .entry)) (now (depths .entry)) column (now (candidate .entry))) start (start + length (now (s .entry))) from (r .pair) (r .old) (r .new) ⌝ }
+{
+    let n = s.len();
+    let pair = row::draw_span(
+        right,
+        table,
+        texture,
+        depths,
+        candidate,
+        column,
+        from,
+        start,
+        s,
+        f,
+        m,
+    );
+    let at = row::part_start(right, depths.len(), start, start + n);
+    let sums = measure(
+        right,
+        squares,
+        share,
+        tolerance,
+        samples,
+        fronts,
+        marks,
+        combined,
+        reference,
+        at,
+        s,
+        f,
+        m,
+    );
+    Strip {
+        old: sums.old,
+        new: sums.new,
+        pair,
+    }
+}
+
+// Room for one plane of a strip.
+fn room() -> [u8; 32]
+    ensures { λ r. ⌜ 32 ≡ length r ⌝ }
+{
+    [0u8; 32]
+}
+
+// The same of n positions, at most 32. A strip is short, since it is cleared for every row; a longer span takes several.
+fn trial_strip(
+    right: bool,
+    table: &[u16; 256],
+    squares: &[u16; 256],
+    share: u8,
+    tolerance: u8,
+    texture: &[u8],
+    depths: &[u8],
+    candidate: &[u8],
+    column: usize,
+    samples: &[u8],
+    fronts: &[u8],
+    marks: &[u8],
+    combined: &[u8],
+    reference: &[u8],
+    from: Pair,
+    start: usize,
+    n: usize,
+) -> Strip
+    requires { ⌜ (Squares (now squares)) × (share ≤ 64) ⌝ }
+    requires { ⌜ Beside (length (now reference)) (now samples) (now fronts) (now marks) (now combined) ⌝ }
+    requires { ⌜ (Ready (lineWith right (now table) (now texture) (now depths) column (now candidate))) × ((column + length (now candidate) ≤ length (now depths)) × (length (now reference) ≡ length (now depths))) ⌝ }
+    requires { ⌜ (Ahead right (lineWith right (now table) (now texture) (now depths) column (now candidate)) (start + n) from) × (n ≤ 32) ⌝ }
+    ensures { λ r. ⌜ Stretch (around right share tolerance (now (samples .entry)) (now (fronts .entry)) (now (marks .entry)) (now (combined .entry)) (now (reference .entry)))
+        (lineWith right (now (table .entry)) (now (texture .entry)) (now (depths .entry)) column (now (candidate .entry))) start (start + n) from (r .pair) (r .old) (r .new) ⌝ }
+{
+    let mut s = room();
+    let mut f = room();
+    let mut m = room();
+    trial_into(
+        right,
+        table,
+        squares,
+        share,
+        tolerance,
+        texture,
+        depths,
+        candidate,
+        column,
+        samples,
+        fronts,
+        marks,
+        combined,
+        reference,
+        from,
+        start,
+        &mut s[..n],
+        &mut f[..n],
+        &mut m[..n],
+    )
+}
+
+// Where the last strip of the positions from `start` up to `top` begins.
+fn strip_start(start: usize, top: usize) -> usize
+    requires { ⌜ start < top ⌝ }
+    ensures { λ r. ⌜ (start ≤ r) × ((r < top) × (top ≤ r + 32)) ⌝ }
+{
+    if top - start <= 32 { start } else { top - 32 }
+}
+
+// The trial of the positions from `start` up to `stop`, strip by strip from the right.
+fn trial_strips(
+    right: bool,
+    table: &[u16; 256],
+    squares: &[u16; 256],
+    share: u8,
+    tolerance: u8,
+    texture: &[u8],
+    depths: &[u8],
+    candidate: &[u8],
+    column: usize,
+    samples: &[u8],
+    fronts: &[u8],
+    marks: &[u8],
+    combined: &[u8],
+    reference: &[u8],
+    from: Pair,
+    start: usize,
+    stop: usize,
+) -> Sums
+    requires { ⌜ (Squares (now squares)) × (share ≤ 64) ⌝ }
+    requires { ⌜ Beside (length (now reference)) (now samples) (now fronts) (now marks) (now combined) ⌝ }
+    requires { ⌜ (Ready (lineWith right (now table) (now texture) (now depths) column (now candidate))) × ((column + length (now candidate) ≤ length (now depths)) × (length (now reference) ≡ length (now depths))) ⌝ }
+    requires { ⌜ Ahead right (lineWith right (now table) (now texture) (now depths) column (now candidate)) stop from ⌝ }
+    ensures { λ r. ⌜ Summed (around right share tolerance (now (samples .entry)) (now (fronts .entry)) (now (marks .entry)) (now (combined .entry)) (now (reference .entry))) (length (now (reference .entry)))
+        (pixelBelow (lineWith right (now (table .entry)) (now (texture .entry)) (now (depths .entry)) column (now (candidate .entry))) (from .column + 1)) (min start stop) stop (r .old) (r .new) ⌝ }
+{
+    let mut q = from;
+    let mut top = stop;
+    let mut old = 0u64;
+    let mut new = 0u64;
+    while start < top {
+        let bottom = strip_start(start, top);
+        let strip = trial_strip(
+            right,
+            table,
+            squares,
+            share,
+            tolerance,
+            texture,
+            depths,
+            candidate,
+            column,
+            samples,
+            fronts,
+            marks,
+            combined,
+            reference,
+            q,
+            bottom,
+            top - bottom,
+        );
+        old += strip.old;
+        new += strip.new;
+        q = strip.pair;
+        top = bottom;
+    }
+    Sums { old, new }
+}
+
+// The two sums of a row's trial, over the positions that the candidate can change.
 fn trial_row(
     right: bool,
     table: &[u16; 256],
-    squares: &[u32; 256],
+    squares: &[u16; 256],
     share: u8,
     tolerance: u8,
     first: usize,
@@ -217,49 +377,42 @@ fn trial_row(
     ensures { λ r. ⌜ RowTrial (around right share tolerance (now (samples .entry)) (now (fronts .entry)) (now (marks .entry)) (now (combined .entry)) (now (reference .entry)))
         (own (now (table .entry)) (now (texture .entry)) (now (depths .entry)) (now (limits .entry))) (now (candidate .entry)) first (r .old) (r .new) ⌝ }
 {
-    let start = span_start(right, table, depths, candidate, first);
-    let mut c = first + candidate.len();
-    let mut d1 = row::at(right, depths, c);
-    let mut next = row::next_place(right, table, depths, c - 1);
-    let mut top = span_stop(right, limits, c, next);
-    let mut old = 0u32;
-    let mut new = 0u32;
-    while start < top {
-        c -= 1;
-        let d0 = tried_at(right, depths, candidate, first, c);
-        let here = row::place_at(table, c, d0);
-        let from = greater(start, row::first_at(here));
-        if from < top {
-            let q = pair_with(right, texture, c, d0, d1, here, next);
-            let s = cover(
-                right,
-                squares,
-                share,
-                tolerance,
-                samples,
-                fronts,
-                marks,
-                combined,
-                reference,
-                q,
-                from,
-                top,
-            );
-            old += s.old;
-            new += s.new;
-            top = from;
-        }
-        d1 = d0;
-        next = here;
-    }
-    Sums { old, new }
+    let w = depths.len();
+    let width = candidate.len();
+    let n = first + width;
+    let column = row::part_start(right, w, first, n);
+    let start = span_start(right, table, depths, candidate, first, column);
+    let next = row::next_place(right, table, depths, n - 1);
+    let high = row::limit_under(right, limits, n, next);
+    let d0 = row::at(right, candidate, width - 1);
+    let d1 = row::at(right, depths, n);
+    let from = row::pair_of(right, table, w, n - 1, d0, d1, next);
+    trial_strips(
+        right,
+        table,
+        squares,
+        share,
+        tolerance,
+        texture,
+        depths,
+        candidate,
+        column,
+        samples,
+        fronts,
+        marks,
+        combined,
+        reference,
+        from,
+        start,
+        row::first_at(high),
+    )
 }
 
 // The same of row y, where what stands beside it is lent whole.
 fn trial_beside(
     right: bool,
     table: &[u16; 256],
-    squares: &[u32; 256],
+    squares: &[u16; 256],
     share: u8,
     tolerance: u8,
     w: usize,
@@ -310,7 +463,7 @@ fn trial_beside(
 fn trial_at(
     right: bool,
     table: &[u16; 256],
-    squares: &[u32; 256],
+    squares: &[u16; 256],
     share: u8,
     tolerance: u8,
     w: usize,
@@ -360,19 +513,12 @@ fn trial_at(
     )
 }
 
-// A row's sum in a block's.
-fn wide(x: u32) -> u64
-    ensures { λ r. ⌜ (r ≡ x) × (r < 4294967296) ⌝ }
-{
-    x as u64
-}
-
 // The two sums of a block's trial in one view: texture, depths and limits are the view's own, and samples, fronts and marks the other
 // view's.
 pub fn trial_block(
     right: bool,
     table: &[u16; 256],
-    squares: &[u32; 256],
+    squares: &[u16; 256],
     share: u8,
     tolerance: u8,
     w: usize,
@@ -390,7 +536,7 @@ pub fn trial_block(
     marks: &[u8],
     combined: &[u8],
     reference: &[u8],
-) -> Totals
+) -> Sums
     requires { ⌜ (tableOk (now table) ≡ true) × ((Squares (now squares)) × (share ≤ 64)) ⌝ }
     requires { ⌜ Sized w h (around right share tolerance (now samples) (now fronts) (now marks) (now combined) (now reference)) (own (now table) (now texture) (now depths) (now limits)) ⌝ }
     requires { ⌜ Fits w h (blockOf column row width height) (now candidate) ⌝ }
@@ -423,9 +569,9 @@ pub fn trial_block(
             combined,
             reference,
         );
-        old += wide(s.old);
-        new += wide(s.new);
+        old += s.old;
+        new += s.new;
         i += 1;
     }
-    Totals { old, new }
+    Sums { old, new }
 }

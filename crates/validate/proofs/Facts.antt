@@ -1,5 +1,5 @@
--- The tests over lengths as plain facts, and the largest entry of a table.
-use Prim.Native.Nat.{ℕ, suc, _+_, _*_, _<_, _≤_, max}
+-- The tests over lengths as plain facts, and the joined bits of a table's entries.
+use Prim.Native.Nat.{ℕ, suc, _+_, _*_, _<_, _≤_}
 use mathlib.Core.Path.{_≡_, refl, sym}
 use mathlib.Core.Bool.{Bool, true, false, _&&_, and-assoc}
 use mathlib.Core.List.{List}
@@ -8,6 +8,7 @@ use native.Mathlib.Numerals.{add-one}
 use lib.ListN.{length, getD, drop, drop-of-length-le}
 use lib.Seq.{drop-cons}
 use lib.Dec.{leb}
+use lib.Bits.{bitOr, or-add-and, or-lt, and-le-l, and-le-r}
 use borrow.Author.Tests.{le-leb, leb-true, eq-eqb, eqb-true}
 use Rattle.model.specs.Marks.{markBytes}
 use Rattle.model.specs.Refusals.{tableOk}
@@ -82,23 +83,29 @@ planes-facts w h l e =
       combined = eqb-true (l .combined) (w * h) (search (and-left, and-right));
     }
 
-leb-max : (m x k : ℕ) → leb (max m x) k ≡ (leb m k && leb x k)
-leb-max m x k =
-    same-test (leb (max m x) k) (leb m k && leb x k)
-    (λ t. let h = leb-true (max m x) k t in and-true (leb m k) (leb x k) (le-leb m k (omega arith)) (le-leb x k (omega arith)))
+-- ten bits hold two numbers joined exactly when they hold both
+or-ten-bits : (m x : ℕ) → leb (bitOr m x) 1023 ≡ (leb m 1023 && leb x 1023)
+or-ten-bits m x =
+    let sum = or-add-and m x in
+    let left = and-le-l m x in
+    let right = and-le-r m x in
+    same-test (leb (bitOr m x) 1023) (leb m 1023 && leb x 1023)
     (λ t.
-    let h = leb-true m k (and-left (leb m k) (leb x k) t) in
-    let l = leb-true x k (and-right (leb m k) (leb x k) t) in
-    le-leb (max m x) k (omega arith))
+    let h = leb-true (bitOr m x) 1023 t in
+    and-true (leb m 1023) (leb x 1023) (le-leb m 1023 (omega arith)) (le-leb x 1023 (omega arith)))
+    (λ t.
+    let h = leb-true m 1023 (and-left (leb m 1023) (leb x 1023) t) in
+    let l = leb-true x 1023 (and-right (leb m 1023) (leb x 1023) t) in
+    le-leb (bitOr m x) 1023 (omega (arith, or-lt 10 m x (omega arith) (omega arith))))
 
--- entry i joins the largest of the entries before it
-pub table-next : (t : List ℕ) (most i : ℕ) → i < length t → (leb (max most (getD t i 0)) 1023 && tableOk (drop (i + 1) t)) ≡ (leb most 1023 && tableOk (drop i t))
+-- entry i joins the bits of the entries before it
+pub table-next : (t : List ℕ) (most i : ℕ) → i < length t → (leb (bitOr most (getD t i 0)) 1023 && tableOk (drop (i + 1) t)) ≡ (leb most 1023 && tableOk (drop i t))
 unfolding tableOk
 table-next t most i h =
-    rw (add-one i, drop-cons t i 0 h, leb-max most (getD t i 0) 1023)
+    rw (add-one i, drop-cons t i 0 h, or-ten-bits most (getD t i 0))
     (and-assoc (leb most 1023) (leb (getD t i 0) 1023) (tableOk (drop (suc i) t)))
 
--- past the last entry the largest decides
+-- past the last entry the joined bits decide
 pub table-end : (t : List ℕ) (most i : ℕ) → length t ≤ i → leb most 1023 ≡ (leb most 1023 && tableOk (drop i t))
 unfolding tableOk
 table-end t most i h = rw (drop-of-length-le t h) (bool-cases (leb most 1023) (λ e. rw e) (λ e. rw e))

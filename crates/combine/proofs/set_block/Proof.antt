@@ -6,9 +6,9 @@ use denote.Ref.{now}
 use lib.ListN.{length}
 use borrow.Author.Needs.{needs}
 use Rattle.model.specs.Planes.{view}
+use Rattle.planes.specs.Parts.{blockOf}
 use Rattle.planes.proofs.Splices.{part-row, part-length}
 use Rattle.commit.proofs.Planes.{sized-row}
-use Rattle.combine.specs.Combine.{blockOf}
 use Rattle.combine.proofs.Rows.{Through, through-none, through-next, through-all, candidate-row, other-row, resized, other-resized}
 use Rattle.combine.proofs.set_block.Statement.{statement}
 use Rattle.combine.proofs.set_block.Tie as tie

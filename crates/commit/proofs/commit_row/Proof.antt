@@ -5,12 +5,10 @@ use lib.ListN.{length}
 use borrow.Author.Needs.{needs}
 use Rattle.model.specs.Planes.{view}
 use Rattle.planes.proofs.SeenParts.{first-fits}
+use Rattle.row.proofs.Limits.{limit-least}
 use Rattle.commit.proofs.Planes.{row-commits}
 use Rattle.commit.proofs.commit_row.Statement.{statement}
 use Rattle.commit.proofs.commit_row.Tie as tie
-
-change-row-requires : tie.Need-change-row-requires
-change-row-requires c κs = search needs
 
 redraw-row-requires : tie.Need-redraw-row-requires
 redraw-row-requires c κs =
@@ -22,25 +20,10 @@ redraw-row-requires c κs =
     let fit = first-fits (a .right) (a .w) (a .column) n (s .pre .1 .1 .1) in (
       (s .pre .0 .0, (omega (arith, s .pre .1 .1), s .pre .0 .1)),
       (
-        (omega (arith, ch .ensures .columns, s .pre .1 .1 .0), (omega (arith, ch .ensures .columns, fit), ch .ensures .top .roof)),
+        (omega (arith, ch .ensures .columns, s .pre .1 .1 .0), (omega (arith, ch .ensures .columns, fit), rw (ch .ensures .top) (limit-least _ (ch .result .columns) _))),
         ((size .texture, rw (ch .kept .1 .1 .1 .1 .1 .1 .0) (size .depths)), (size .samples, (size .fronts, size .marks))),
       ),
     )
-
-same-length : tie.Need-same-length
-same-length c = search needs
-
-same-length-2 : tie.Need-same-length-2
-same-length-2 c = search needs
-
-same-length-3 : tie.Need-same-length-3
-same-length-3 c = search needs
-
-same-length-4 : tie.Need-same-length-4
-same-length-4 c = search needs
-
-same-length-5 : tie.Need-same-length-5
-same-length-5 c = search needs
 
 returns : tie.Need-returns
 returns c =
@@ -56,11 +39,11 @@ pub commit-row-spec : {M : Type 1} → statement M
 commit-row-spec =
     tie.close
     (tie.spec
-    change-row-requires
+    (λ c κs. search needs)
     redraw-row-requires
-    same-length
-    same-length-2
-    same-length-3
-    same-length-4
-    same-length-5
+    (λ c. search needs)
+    (λ c. search needs)
+    (λ c. search needs)
+    (λ c. search needs)
+    (λ c. search needs)
     returns)

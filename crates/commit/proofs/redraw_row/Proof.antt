@@ -12,48 +12,6 @@ use Rattle.commit.proofs.Lent.{redrawn-row}
 use Rattle.commit.proofs.redraw_row.Statement.{statement}
 use Rattle.commit.proofs.redraw_row.Tie as tie
 
-mul-base : tie.Need-mul-base
-mul-base c = search needs
-
-add-end : tie.Need-add-end
-add-end c = search needs
-
-add-bytes : tie.Need-add-bytes
-add-bytes c = search needs
-
-mul-byte : tie.Need-mul-byte
-mul-byte c = search needs
-
-add-last : tie.Need-add-last
-add-last c = search needs
-
-sub-redraw : tie.Need-sub-redraw
-sub-redraw c = search needs
-
-part-redraw-start : tie.Need-part-redraw-start
-part-redraw-start c = search needs
-
-part-redraw-end : tie.Need-part-redraw-end
-part-redraw-end c = search needs
-
-sub-redraw-2 : tie.Need-sub-redraw-2
-sub-redraw-2 c = search needs
-
-part-redraw-start-2 : tie.Need-part-redraw-start-2
-part-redraw-start-2 c = search needs
-
-part-redraw-end-2 : tie.Need-part-redraw-end-2
-part-redraw-end-2 c = search needs
-
-sub-redraw-3 : tie.Need-sub-redraw-3
-sub-redraw-3 c = search needs
-
-part-redraw-start-3 : tie.Need-part-redraw-start-3
-part-redraw-start-3 c = search needs
-
-part-redraw-end-3 : tie.Need-part-redraw-end-3
-part-redraw-end-3 c = search needs
-
 redraw-requires : tie.Need-redraw-requires
 redraw-requires c κs =
     let s = c .before .before .before .before .before .before .before .before .before .before in
@@ -70,15 +28,6 @@ redraw-requires c κs =
       ),
     )
 
-same-length : tie.Need-same-length
-same-length c = search needs
-
-same-length-2 : tie.Need-same-length-2
-same-length-2 c = search needs
-
-same-length-3 : tie.Need-same-length-3
-same-length-3 c = search needs
-
 returns : tie.Need-returns
 returns c =
     let s = c .before .before .before .before .before .before .before .before .before .before .before .before .before .before .before .before .before in
@@ -93,22 +42,22 @@ pub redraw-row-spec : {M : Type 1} → statement M
 redraw-row-spec =
     tie.close
     (tie.spec
-    mul-base
-    add-end
-    add-bytes
-    mul-byte
-    add-last
-    sub-redraw
-    part-redraw-start
-    part-redraw-end
-    sub-redraw-2
-    part-redraw-start-2
-    part-redraw-end-2
-    sub-redraw-3
-    part-redraw-start-3
-    part-redraw-end-3
+    (λ c. search needs)
+    (λ c. search needs)
+    (λ c. search needs)
+    (λ c. search needs)
+    (λ c. search needs)
+    (λ c. search needs)
+    (λ c. search needs)
+    (λ c. search needs)
+    (λ c. search needs)
+    (λ c. search needs)
+    (λ c. search needs)
+    (λ c. search needs)
+    (λ c. search needs)
+    (λ c. search needs)
     redraw-requires
-    same-length
-    same-length-2
-    same-length-3
+    (λ c. search needs)
+    (λ c. search needs)
+    (λ c. search needs)
     returns)

@@ -33,9 +33,6 @@ place-of-requires c κs =
     let l = c .before .loop in
     (s .pre .0 .0, omega (arith, l .inv .0 .column, s .pre .1 .0))
 
-least-requires : tie.Need-least-requires Inv-loop μ-loop
-least-requires c κs = search needs
-
 held-limit-requires : tie.Need-held-limit-requires Inv-loop μ-loop
 held-limit-requires c κs =
     let s = c .before .before .before .before .before .before .before in
@@ -97,7 +94,7 @@ write-limits-spec =
     loop-holds
     sub-c
     place-of-requires
-    least-requires
+    (λ c κs. search needs)
     held-limit-requires
     same-length
     returns

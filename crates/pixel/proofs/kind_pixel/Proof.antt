@@ -1,61 +1,47 @@
-use mathlib.Core.Path.{_≡_, sym, _∙_}
-use lib.IntN.{subℕ}
-use Rattle.model.specs.declared.Kind.the-variants.{Hidden, Smooth, Torn}
-use Rattle.model.specs.Row.{kindOf}
-use Rattle.pixel.specs.Pairs.{kindPixel}
+-- `pixel::kind_pixel` meets its contract: the ranges are the two tests of `kindOf`.
+use mathlib.Core.Path.{_≡_}
+use mathlib.Core.Bool.{true, false}
 use borrow.Author.Needs.{needs}
+use lib.IntN.{subℕ, pos}
+use lib.Signed.{ltZ}
+use mir.Syntax.{w32}
+use Rattle.model.specs.Row.{kindOf}
+use Rattle.signed.proofs.Signed.{read-back}
+use Rattle.pixel.specs.Pairs.{kindPixel}
 use Rattle.pixel.proofs.kind_pixel.Statement.{statement}
 use Rattle.pixel.proofs.kind_pixel.Tie as tie
 
-pair-kind-requires : tie.Need-pair-kind-requires
-pair-kind-requires c κs = search needs
-
-enum-told : tie.Need-enum-told
-enum-told c = search needs
-
-enum-told-2 : tie.Need-enum-told-2
-enum-told-2 c = search needs
-
-smooth-pixel-requires : tie.Need-smooth-pixel-requires
-smooth-pixel-requires c κs = search needs
-
-enum-told-3 : tie.Need-enum-told-3
-enum-told-3 c = search needs
-
-torn-pixel-requires : tie.Need-torn-pixel-requires
-torn-pixel-requires c κs = search needs
-
 returns : tie.Need-returns
-unfolding kindPixel
+unfolding kindPixel kindOf
 returns c =
-    let q = c .before .before .before .args .q in
-    let e : kindOf (subℕ (q .next) (q .here)) ≡ Hidden = sym (c .before .before .pair-kind .ensures) ∙ c .enum-told .given .1 in
-    rw e
+    let g = c .before .before .gap-of in
+    let h : ltZ (g .result) (pos 1) ≡ true = rw (read-back w32 (g .result) (g .ok)) at (c .before .if1 .taken) in
+    rw (← g .ensures, h, c .sample-at .ensures)
 
 returns-2 : tie.Need-returns-2
-unfolding kindPixel
+unfolding kindPixel kindOf
 returns-2 c =
-    let q = c .before .before .before .before .args .q in
-    let e : kindOf (subℕ (q .next) (q .here)) ≡ Smooth = sym (c .before .before .before .pair-kind .ensures) ∙ c .before .enum-told2 .given .1 in
-    rw e (c .smooth-pixel .ensures)
+    let g = c .before .before .before .gap-of in
+    let h : ltZ (g .result) (pos 1) ≡ false = rw (read-back w32 (g .result) (g .ok)) at (c .before .before .if1 .left) in
+    let k : ltZ (g .result) (pos 9) ≡ true = rw (read-back w32 (g .result) (g .ok)) at (c .before .if2 .taken) in
+    rw (← g .ensures, h, k, c .smooth-pixel .ensures)
 
 returns-3 : tie.Need-returns-3
-unfolding kindPixel
+unfolding kindPixel kindOf
 returns-3 c =
-    let q = c .before .before .before .before .args .q in
-    let e : kindOf (subℕ (q .next) (q .here)) ≡ Torn = sym (c .before .before .before .pair-kind .ensures) ∙ c .before .enum-told3 .given .1 in
-    rw e (c .torn-pixel .ensures)
+    let g = c .before .before .before .gap-of in
+    let h : ltZ (g .result) (pos 1) ≡ false = rw (read-back w32 (g .result) (g .ok)) at (c .before .before .if1 .left) in
+    let k : ltZ (g .result) (pos 9) ≡ false = rw (read-back w32 (g .result) (g .ok)) at (c .before .if2 .left) in
+    rw (← g .ensures, h, k, c .torn-pixel .ensures)
 
 pub kind-pixel-spec : {M : Type 1} → statement M
 kind-pixel-spec =
     tie.close
     (tie.spec
-    pair-kind-requires
-    enum-told
-    enum-told-2
-    smooth-pixel-requires
-    enum-told-3
-    torn-pixel-requires
+    (λ c κs. search needs)
+    (λ c κs. search needs)
+    (λ c κs. search needs)
+    (λ c κs. search needs)
     returns
     returns-2
     returns-3)

@@ -8,9 +8,6 @@ use borrow.Author.Needs.{needs}
 use Rattle.pixel.proofs.reaches.Statement.{statement}
 use Rattle.pixel.proofs.reaches.Tie as tie
 
-cast-result : tie.Need-cast-result
-cast-result c = search needs
-
 returns : tie.Need-returns
 unfolding reached
 returns c =
@@ -18,4 +15,4 @@ returns c =
     ⊎-elim (λ h. rw (lt-leb (a .m) (a .x) h) (refl, omega arith)) (λ h. rw (le-leb (a .m) (a .x) h) (refl, omega arith)) (lt-or-le (a .x) (a .m))
 
 pub reaches-spec : {M : Type 1} → statement M
-reaches-spec = tie.close (tie.spec cast-result returns)
+reaches-spec = tie.close (tie.spec (λ c. search needs) returns)

@@ -9,12 +9,6 @@ use borrow.Author.Needs.{needs}
 use Rattle.row.proofs.at.Statement.{statement}
 use Rattle.row.proofs.at.Tie as tie
 
-entry-requires : tie.Need-entry-requires
-entry-requires c κs = search needs
-
-shared-slice-read-result : tie.Need-shared-slice-read-result
-shared-slice-read-result c = search needs
-
 returns : tie.Need-returns
 returns c =
     let s = c .before .before .before .before in
@@ -28,4 +22,4 @@ returns-2 c =
     sym (List·getD-eq-default (seen (a .right) (now (a .row))) 0 (omega (arith, length-seen (a .right) (now (a .row)), c .if1 .left)))
 
 pub at-spec : {M : Type 1} → statement M
-at-spec = tie.close (tie.spec entry-requires shared-slice-read-result returns returns-2)
+at-spec = tie.close (tie.spec (λ c κs. search needs) (λ c. search needs) returns returns-2)

@@ -33,9 +33,6 @@ place-of-requires : tie.Need-place-of-requires Inv-loop μ-loop
 place-of-requires c κs =
     let s = c .before .before .before in (s .pre .0 .0, omega (arith, c .before .loop .inv .1 .column, c .loop-test .taken, s .pre .1 .0))
 
-least-requires : tie.Need-least-requires Inv-loop μ-loop
-least-requires c κs = search needs
-
 limit-of-requires : tie.Need-limit-of-requires Inv-loop μ-loop
 limit-of-requires c κs =
     let s = c .before .before .before .before .before .before in
@@ -84,7 +81,7 @@ draw-limits-spec =
     loop-holds
     sub-c
     place-of-requires
-    least-requires
+    (λ c κs. search needs)
     limit-of-requires
     put-limit-requires
     loop-less

@@ -24,12 +24,6 @@ sub-i c = omega arith
 add-place-of : tie.Need-add-place-of Inv-loop μ-loop
 add-place-of c = omega arith
 
-place-of-requires : tie.Need-place-of-requires Inv-loop μ-loop
-place-of-requires c κs = search needs
-
-least-requires : tie.Need-least-requires Inv-loop μ-loop
-least-requires c κs = search needs
-
 loop-less : tie.Need-loop-less Inv-loop μ-loop
 loop-less c = omega arith
 
@@ -57,8 +51,8 @@ least-place-spec =
     loop-holds
     sub-i
     add-place-of
-    place-of-requires
-    least-requires
+    (λ c κs. search needs)
+    (λ c κs. search needs)
     loop-less
     loop-again
     returns)

@@ -6,24 +6,6 @@ use borrow.Author.Needs.{needs}
 use Rattle.row.proofs.next_place.Statement.{statement}
 use Rattle.row.proofs.next_place.Tie as tie
 
-add-if1 : tie.Need-add-if1
-add-if1 c = search needs
-
-cast-result : tie.Need-cast-result
-cast-result c = search needs
-
-mul-result : tie.Need-mul-result
-mul-result c = search needs
-
-add-result : tie.Need-add-result
-add-result c = search needs
-
-add-place-of : tie.Need-add-place-of
-add-place-of c = search needs
-
-place-of-requires : tie.Need-place-of-requires
-place-of-requires c κs = search needs
-
 returns : tie.Need-returns
 unfolding nextPlace
 returns c = let a = c .before .before .args in rw (length-seen (a .right) (now (a .depths)), le-leb _ _ (c .if1 .taken))
@@ -38,11 +20,11 @@ pub next-place-spec : {M : Type 1} → statement M
 next-place-spec =
     tie.close
     (tie.spec
-    add-if1
-    cast-result
-    mul-result
-    add-result
-    add-place-of
-    place-of-requires
+    (λ c. search needs)
+    (λ c. search needs)
+    (λ c. search needs)
+    (λ c. search needs)
+    (λ c. search needs)
+    (λ c κs. search needs)
     returns
     returns-2)

@@ -4,9 +4,6 @@ use borrow.Author.Needs.{needs}
 use Rattle.row.proofs.part_start.Statement.{statement}
 use Rattle.row.proofs.part_start.Tie as tie
 
-sub-result : tie.Need-sub-result
-sub-result c = search needs
-
 returns : tie.Need-returns
 unfolding firstColumn
 returns c = rw (c .if1 .taken) (omega arith, omega arith)
@@ -16,4 +13,4 @@ unfolding firstColumn
 returns-2 c = rw (c .if1 .left) (omega arith, omega arith)
 
 pub part-start-spec : {M : Type 1} → statement M
-part-start-spec = tie.close (tie.spec sub-result returns returns-2)
+part-start-spec = tie.close (tie.spec (λ c. search needs) returns returns-2)

@@ -7,12 +7,6 @@ use borrow.Author.Needs.{needs}
 use Rattle.row.proofs.place_of.Statement.{statement}
 use Rattle.row.proofs.place_of.Tie as tie
 
-at-requires : tie.Need-at-requires
-at-requires c κs = search needs
-
-place-at-requires : tie.Need-place-at-requires
-place-at-requires c κs = search needs
-
 returns : tie.Need-returns
 unfolding place
 returns c =
@@ -20,4 +14,4 @@ returns c =
     c .place-at .ensures ∙ ap (λ (d : ℕ). quarter (a .c) - getD (now (a .table)) d 0) (c .before .at .ensures)
 
 pub place-of-spec : {M : Type 1} → statement M
-place-of-spec = tie.close (tie.spec at-requires place-at-requires returns)
+place-of-spec = tie.close (tie.spec (λ c κs. search needs) (λ c κs. search needs) returns)

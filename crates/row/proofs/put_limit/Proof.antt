@@ -11,18 +11,6 @@ use borrow.Author.Needs.{needs}
 use Rattle.row.proofs.put_limit.Statement.{statement}
 use Rattle.row.proofs.put_limit.Tie as tie
 
-entry-requires : tie.Need-entry-requires
-entry-requires c κs = search needs
-
-mul-v : tie.Need-mul-v
-mul-v c = search needs
-
-slice-set-from-v : tie.Need-slice-set-from-v
-slice-set-from-v c = search needs
-
-same-length : tie.Need-same-length
-same-length c = search needs
-
 returns : tie.Need-returns
 returns c =
     let s = c .before in
@@ -32,4 +20,4 @@ returns c =
     ∙ set-seen (pos 0) (a .right) (now (a .row)) (a .c) (a .v) (s .pre))
 
 pub put-limit-spec : {M : Type 1} → statement M
-put-limit-spec = tie.close (tie.spec entry-requires mul-v slice-set-from-v same-length returns)
+put-limit-spec = tie.close (tie.spec (λ c κs. search needs) (λ c. search needs) (λ c. search needs) (λ c. search needs) returns)

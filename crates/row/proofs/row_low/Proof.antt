@@ -7,15 +7,6 @@ use borrow.Author.Needs.{needs}
 use Rattle.row.proofs.row_low.Statement.{statement}
 use Rattle.row.proofs.row_low.Tie as tie
 
-column-before-requires : tie.Need-column-before-requires
-column-before-requires c κs = search needs
-
-place-of-requires : tie.Need-place-of-requires
-place-of-requires c κs = search needs
-
-least-place-requires : tie.Need-least-place-requires
-least-place-requires c κs = search needs
-
 returns : tie.Need-returns
 returns c =
     let a = c .before .before .before .before .args in
@@ -24,4 +15,4 @@ returns c =
 
 pub row-low-spec : {M : Type 1} → statement M
 row-low-spec =
-    tie.close (tie.spec column-before-requires place-of-requires least-place-requires returns)
+    tie.close (tie.spec (λ c κs. search needs) (λ c κs. search needs) (λ c κs. search needs) returns)

@@ -12,12 +12,6 @@ use Rattle.sums.proofs.shared.Tie as tie
 parts : (c : tie.Start) → (c .args .left * (64 - c .args .share) ≤ 255 * (64 - c .args .share)) × (c .args .right * c .args .share ≤ 255 * c .args .share)
 parts c = (mul-le-mul-right (64 - c .args .share) (omega arith), mul-le-mul-right (c .args .share) (omega arith))
 
-sub-result : tie.Need-sub-result
-sub-result c = search needs
-
-cast-result : tie.Need-cast-result
-cast-result c = search needs
-
 mul-result : tie.Need-mul-result
 mul-result c = omega (arith, parts c)
 
@@ -41,8 +35,8 @@ pub shared-spec : {M : Type 1} → statement M
 shared-spec =
     tie.close
     (tie.spec
-    sub-result
-    cast-result
+    (λ c. search needs)
+    (λ c. search needs)
     mul-result
     mul-result-2
     add-result

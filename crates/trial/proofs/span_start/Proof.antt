@@ -1,86 +1,93 @@
--- `trial::span_start` meets its contract: the least of the old places is `row_low`'s; the loop adds the new places, from the right.
-use Prim.Native.Nat.{ℕ, _+_, _-_, _<_, _≤_}
-use mathlib.Core.Path.{_≡_, sym, ap, _∙_}
+use Rattle.row.proofs.Columns.{place-is}
+-- `trial::span_start` meets its contract: the loop finds the least of the old and the new places, from the right.
+use Prim.Native.Nat.{ℕ, _+_, _-_, _<_, _≤_, min}
+use mathlib.Core.Path.{_≡_, refl, sym, ap, _∙_}
 use native.Mathlib.Omega.{arith}
 use denote.Ref.{now}
-use lib.ListN.{length}
+use lib.ListN.{length, getD}
 use borrow.Author.Needs.{needs}
-use Rattle.model.specs.Row.{place, least}
+use Rattle.model.specs.Row.{place, quarter, least}
 use Rattle.model.specs.Views.{seen}
 use Rattle.planes.specs.Parts.{splice}
+use Rattle.planes.proofs.Entries.{read-at}
 use Rattle.row.specs.Drawing.{firstAt}
-use Rattle.row.proofs.Lows.{least-none, least-back, least-all, low-is}
+use Rattle.row.proofs.Lows.{least-none, least-back, least-all}
 use Rattle.trial.specs.Trial.{spanStart}
-use Rattle.trial.proofs.Candidates.{tried-place}
+use Rattle.trial.proofs.Candidates.{tried-place, part-within, part-read}
+use Rattle.trial.proofs.Positions.{start-is}
 use Rattle.trial.proofs.span_start.Statement.{statement}
 use Rattle.trial.proofs.span_start.Tie as tie
 
 abbrev Inv-loop : tie.InvT-loop
-Inv-loop right table depths candidate first n₀ low₀ n low =
+Inv-loop right table depths candidate first column near low₀ n₀ low n =
     (n ≤ length candidate)
-    × (low ≡ least (place table (splice (seen right depths) first (seen right candidate))) low₀ (first + n) (length candidate - n))
+    × (low ≡ least (λ c. min (place table (seen right depths) c) (place table (splice (seen right depths) first (seen right candidate)) c)) low₀ (first + n) (length candidate - n))
 
 abbrev μ-loop : tie.MeasureT-loop
-μ-loop right table depths candidate first n₀ low₀ n low =
-    n
+μ-loop right table depths candidate first column near low₀ n₀ low n = n
 
-row-low-requires : tie.Need-row-low-requires Inv-loop μ-loop
-row-low-requires c κs =
-    (c .before .before .pre .0, omega arith)
+place-of-requires : tie.Need-place-of-requires Inv-loop μ-loop
+place-of-requires c κs = (c .before .before .before .pre .0, omega (arith, c .column-before .ensures))
 
 loop-holds : tie.Need-loop-holds Inv-loop μ-loop
-loop-holds c =
-    (omega arith, least-none _ _ _ _)
+loop-holds c = (omega arith, least-none _ _ _ _)
 
-sub-n : tie.Need-sub-n Inv-loop μ-loop
-sub-n c = search needs
+add-place-at-2 : tie.Need-add-place-at-2 Inv-loop μ-loop
+add-place-at-2 c =
+    let s = c .before .before .before .before .before .before .before in
+    let a = s .args in
+    omega (
+      arith,
+      part-within (a .right) (now (a .depths)) (a .first) (length (now (a .candidate))) (c .before .before .loop .n - 1) (s .pre .1 .0 .0) (omega (arith, c .before .before .loop .inv .0, c .before .loop-test .taken)) (s .pre .1 .1 .1) (c .entry .ensures .0),
+    )
 
-add-place-at : tie.Need-add-place-at Inv-loop μ-loop
-add-place-at c = search needs
-
-at-requires : tie.Need-at-requires Inv-loop μ-loop
-at-requires c κs = search needs
+shared-slice-read-place-at : tie.Need-shared-slice-read-place-at Inv-loop μ-loop
+shared-slice-read-place-at c =
+    let s = c .before .before .before .before .before .before .before .before in
+    let a = s .args in
+    part-within (a .right) (now (a .depths)) (a .first) (length (now (a .candidate))) (c .before .before .before .loop .n - 1) (s .pre .1 .0 .0) (omega (arith, c .before .before .before .loop .inv .0, c .before .before .loop-test .taken)) (s .pre .1 .1 .1) (c .before .entry .ensures .0)
 
 place-at-requires : tie.Need-place-at-requires Inv-loop μ-loop
-place-at-requires c κs =
-    (c .before .before .before .before .before .before .pre .0, omega arith)
+place-at-requires c κs = (c .before .before .before .before .before .before .before .before .pre .0, omega arith)
 
-least-requires : tie.Need-least-requires Inv-loop μ-loop
-least-requires c κs = search needs
+shared-slice-read-place-at-2 : tie.Need-shared-slice-read-place-at-2 Inv-loop μ-loop
+shared-slice-read-place-at-2 c = omega (arith, c .before .before .before .entry .ensures .1)
 
-loop-less : tie.Need-loop-less Inv-loop μ-loop
-loop-less c = search needs
+place-at-requires-2 : tie.Need-place-at-requires-2 Inv-loop μ-loop
+place-at-requires-2 c κs = (c .before .before .before .before .before .before .before .before .before .before .pre .0, omega arith)
 
 loop-again : tie.Need-loop-again Inv-loop μ-loop
 loop-again c =
-    let s = c .before .before .before .before .before .before .before .before in
+    let s = c .before .before .before .before .before .before .before .before .before .before .before .before .before in
     let a = s .args in
-    let i = c .before .before .before .before .loop in
-    let more = c .before .before .before .loop-test .taken in
-    let g = place (now (a .table)) (splice (seen (a .right) (now (a .depths))) (a .first) (seen (a .right) (now (a .candidate)))) in
-    let k : i .n - 1 < length (now (a .candidate)) = omega (arith, more, i .inv .0) in
-    let here : c .before .place-at .result ≡ g (a .first + (i .n - 1)) =
-    c .before .place-at .ensures ∙ rw (c .before .before .at .ensures) (sym (tried-place (a .right) (now (a .depths)) (now (a .candidate)) (a .first) (s .pre .1 .0 .0) (now (a .table)) (i .n - 1) k)) in (
-      omega (arith, i .inv .0),
-      c .least .ensures ∙ rw (here, i .inv .1) (sym (least-back g (c .before .before .before .before .before .row-low .result) (a .first) (length (now (a .candidate))) (i .n) more (i .inv .0))),
-    )
-
-first-at-requires : tie.Need-first-at-requires Inv-loop μ-loop
-first-at-requires c κs = search needs
-
-returns : tie.Need-returns Inv-loop μ-loop
-unfolding spanStart
-returns c =
-    let s = c .before .before .before .before .before .before in
-    let a = s .args in
-    let i = c .before .before .loop in
-    let n : ℕ = length (now (a .candidate)) in
-    let old = c .before .before .before .row-low in
+    let i = c .before .before .before .before .before .before .before .before .loop in
+    let more = c .before .before .before .before .before .before .before .loop-test .taken in
     let f = place (now (a .table)) (seen (a .right) (now (a .depths))) in
     let g = place (now (a .table)) (splice (seen (a .right) (now (a .depths))) (a .first) (seen (a .right) (now (a .candidate)))) in
+    let k : i .n - 1 < length (now (a .candidate)) = omega (arith, i .inv .0) in
+    let entry = c .before .before .before .before .before .before .entry .ensures .0 in
+    let old : c .before .before .before .before .place-at .result ≡ f (a .first + (i .n - 1)) =
+    place-is (now (a .table)) (seen (a .right) (now (a .depths))) (a .first + (i .n - 1)) (part-read (a .right) (now (a .depths)) (a .first) (length (now (a .candidate))) (i .n - 1) (s .pre .1 .0 .0) k (s .pre .1 .1 .1) entry) (c .before .before .before .before .place-at .ensures) in
+    let new : c .before .before .place-at2 .result ≡ g (a .first + (i .n - 1)) =
+    c .before .before .place-at2 .ensures ∙ rw (read-at 0 (a .right) (now (a .candidate)) refl k entry) (sym (tried-place (a .right) (now (a .depths)) (now (a .candidate)) (a .first) (s .pre .1 .0 .0) (now (a .table)) (i .n - 1) k)) in (
+      omega (arith, i .inv .0),
+      c .least2 .ensures
+          ∙ rw (c .before .least .ensures, old, new, i .inv .1)
+          (sym (least-back (λ x. min (f x) (g x)) (c .before .before .before .before .before .before .before .before .before .place-of .result) (a .first) (length (now (a .candidate))) (i .n) more (i .inv .0))),
+    )
+
+returns : tie.Need-returns Inv-loop μ-loop
+returns c =
+    let s = c .before .before .before .before .before .before .before in
+    let a = s .args in
+    let i = c .before .before .loop in
+    let f = place (now (a .table)) (seen (a .right) (now (a .depths))) in
+    let g = place (now (a .table)) (splice (seen (a .right) (now (a .depths))) (a .first) (seen (a .right) (now (a .candidate)))) in
+    let top : c .before .before .before .place-of .result ≡ f (a .first - 1) = c .before .before .before .place-of .ensures ∙ ap f (c .before .before .before .before .column-before .ensures) in
     c .first-at .ensures
-    ∙ ap (λ (x : ℕ). firstAt x)
-    (low-is f g (old .result) (i .low) (a .first) n (s .pre .1 .1) (old .ensures) (i .inv .1 ∙ least-all g (old .result) (a .first) n (i .n) (c .before .loop-test .left)))
+    ∙ ap (λ (x : ℕ). firstAt x) (i .inv .1 ∙ least-all (λ x. min (f x) (g x)) (c .before .before .before .place-of .result) (a .first) (length (now (a .candidate))) (i .n) (c .before .loop-test .left)
+    ∙ ap (λ (x : ℕ). least (λ y. min (f y) (g y)) x (a .first) (length (now (a .candidate)))) top)
+    ∙ start-is f g (a .first) (length (now (a .candidate))) (s .pre .1 .1 .0)
 
 pub span-start-spec : {M : Type 1} → statement M
 span-start-spec =
@@ -88,14 +95,21 @@ span-start-spec =
     (tie.spec
     Inv-loop
     μ-loop
-    row-low-requires
+    (λ c κs. search needs)
+    place-of-requires
     loop-holds
-    sub-n
-    add-place-at
-    at-requires
+    (λ c. search needs)
+    (λ c κs. search needs)
+    (λ c. search needs)
+    add-place-at-2
+    shared-slice-read-place-at
     place-at-requires
-    least-requires
-    loop-less
+    (λ c. search needs)
+    shared-slice-read-place-at-2
+    place-at-requires-2
+    (λ c κs. search needs)
+    (λ c κs. search needs)
+    (λ c. search needs)
     loop-again
-    first-at-requires
+    (λ c κs. search needs)
     returns)

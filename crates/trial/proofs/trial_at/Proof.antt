@@ -9,57 +9,6 @@ use Rattle.planes.proofs.Splices.{part-length}
 use Rattle.trial.proofs.trial_at.Statement.{statement}
 use Rattle.trial.proofs.trial_at.Tie as tie
 
-mul-p : tie.Need-mul-p
-mul-p c = search needs
-
-add-q : tie.Need-add-q
-add-q c = search needs
-
-mul-m : tie.Need-mul-m
-mul-m c = search needs
-
-add-n : tie.Need-add-n
-add-n c = search needs
-
-sub-trial-beside : tie.Need-sub-trial-beside
-sub-trial-beside c = search needs
-
-part-trial-beside-start : tie.Need-part-trial-beside-start
-part-trial-beside-start c = search needs
-
-part-trial-beside-end : tie.Need-part-trial-beside-end
-part-trial-beside-end c = search needs
-
-sub-trial-beside-2 : tie.Need-sub-trial-beside-2
-sub-trial-beside-2 c = search needs
-
-part-trial-beside-start-2 : tie.Need-part-trial-beside-start-2
-part-trial-beside-start-2 c = search needs
-
-part-trial-beside-end-2 : tie.Need-part-trial-beside-end-2
-part-trial-beside-end-2 c = search needs
-
-mul-trial-beside : tie.Need-mul-trial-beside
-mul-trial-beside c = search needs
-
-sub-trial-beside-3 : tie.Need-sub-trial-beside-3
-sub-trial-beside-3 c = search needs
-
-part-trial-beside-start-3 : tie.Need-part-trial-beside-start-3
-part-trial-beside-start-3 c = search needs
-
-part-trial-beside-end-3 : tie.Need-part-trial-beside-end-3
-part-trial-beside-end-3 c = search needs
-
-sub-trial-beside-4 : tie.Need-sub-trial-beside-4
-sub-trial-beside-4 c = search needs
-
-part-trial-beside-start-4 : tie.Need-part-trial-beside-start-4
-part-trial-beside-start-4 c = search needs
-
-part-trial-beside-end-4 : tie.Need-part-trial-beside-end-4
-part-trial-beside-end-4 c = search needs
-
 trial-beside-requires : tie.Need-trial-beside-requires
 trial-beside-requires c κs =
     let s = c .before .before .before .before .before .before .before .before .before .before .before .before in
@@ -93,22 +42,22 @@ pub trial-at-spec : {M : Type 1} → statement M
 trial-at-spec =
     tie.close
     (tie.spec
-    mul-p
-    add-q
-    mul-m
-    add-n
-    sub-trial-beside
-    part-trial-beside-start
-    part-trial-beside-end
-    sub-trial-beside-2
-    part-trial-beside-start-2
-    part-trial-beside-end-2
-    mul-trial-beside
-    sub-trial-beside-3
-    part-trial-beside-start-3
-    part-trial-beside-end-3
-    sub-trial-beside-4
-    part-trial-beside-start-4
-    part-trial-beside-end-4
+    (λ c. search needs)
+    (λ c. search needs)
+    (λ c. search needs)
+    (λ c. search needs)
+    (λ c. search needs)
+    (λ c. search needs)
+    (λ c. search needs)
+    (λ c. search needs)
+    (λ c. search needs)
+    (λ c. search needs)
+    (λ c. search needs)
+    (λ c. search needs)
+    (λ c. search needs)
+    (λ c. search needs)
+    (λ c. search needs)
+    (λ c. search needs)
+    (λ c. search needs)
     trial-beside-requires
     returns)

@@ -10,66 +10,6 @@ use Rattle.planes.proofs.Splices.{part-length}
 use Rattle.trial.proofs.trial_beside.Statement.{statement}
 use Rattle.trial.proofs.trial_beside.Tie as tie
 
-add-bytes : tie.Need-add-bytes
-add-bytes c = search needs
-
-mul-p : tie.Need-mul-p
-mul-p c = search needs
-
-add-q : tie.Need-add-q
-add-q c = search needs
-
-mul-m : tie.Need-mul-m
-mul-m c = search needs
-
-add-n : tie.Need-add-n
-add-n c = search needs
-
-sub-trial-row : tie.Need-sub-trial-row
-sub-trial-row c = search needs
-
-part-trial-row-start : tie.Need-part-trial-row-start
-part-trial-row-start c = search needs
-
-part-trial-row-end : tie.Need-part-trial-row-end
-part-trial-row-end c = search needs
-
-sub-trial-row-2 : tie.Need-sub-trial-row-2
-sub-trial-row-2 c = search needs
-
-part-trial-row-start-2 : tie.Need-part-trial-row-start-2
-part-trial-row-start-2 c = search needs
-
-part-trial-row-end-2 : tie.Need-part-trial-row-end-2
-part-trial-row-end-2 c = search needs
-
-sub-trial-row-3 : tie.Need-sub-trial-row-3
-sub-trial-row-3 c = search needs
-
-part-trial-row-start-3 : tie.Need-part-trial-row-start-3
-part-trial-row-start-3 c = search needs
-
-part-trial-row-end-3 : tie.Need-part-trial-row-end-3
-part-trial-row-end-3 c = search needs
-
-sub-trial-row-4 : tie.Need-sub-trial-row-4
-sub-trial-row-4 c = search needs
-
-part-trial-row-start-4 : tie.Need-part-trial-row-start-4
-part-trial-row-start-4 c = search needs
-
-part-trial-row-end-4 : tie.Need-part-trial-row-end-4
-part-trial-row-end-4 c = search needs
-
-sub-trial-row-5 : tie.Need-sub-trial-row-5
-sub-trial-row-5 c = search needs
-
-part-trial-row-start-5 : tie.Need-part-trial-row-start-5
-part-trial-row-start-5 c = search needs
-
-part-trial-row-end-5 : tie.Need-part-trial-row-end-5
-part-trial-row-end-5 c = search needs
-
 trial-row-requires : tie.Need-trial-row-requires
 trial-row-requires c κs =
     let s = c .before .before .before .before .before .before .before .before .before .before .before .before .before in
@@ -107,25 +47,25 @@ pub trial-beside-spec : {M : Type 1} → statement M
 trial-beside-spec =
     tie.close
     (tie.spec
-    add-bytes
-    mul-p
-    add-q
-    mul-m
-    add-n
-    sub-trial-row
-    part-trial-row-start
-    part-trial-row-end
-    sub-trial-row-2
-    part-trial-row-start-2
-    part-trial-row-end-2
-    sub-trial-row-3
-    part-trial-row-start-3
-    part-trial-row-end-3
-    sub-trial-row-4
-    part-trial-row-start-4
-    part-trial-row-end-4
-    sub-trial-row-5
-    part-trial-row-start-5
-    part-trial-row-end-5
+    (λ c. search needs)
+    (λ c. search needs)
+    (λ c. search needs)
+    (λ c. search needs)
+    (λ c. search needs)
+    (λ c. search needs)
+    (λ c. search needs)
+    (λ c. search needs)
+    (λ c. search needs)
+    (λ c. search needs)
+    (λ c. search needs)
+    (λ c. search needs)
+    (λ c. search needs)
+    (λ c. search needs)
+    (λ c. search needs)
+    (λ c. search needs)
+    (λ c. search needs)
+    (λ c. search needs)
+    (λ c. search needs)
+    (λ c. search needs)
     trial-row-requires
     returns)

@@ -1,4 +1,4 @@
--- `trial::trial_block` meets its contract: the sums of the block's first i rows (proofs/Blocks).
+-- `trial::trial_block` meets its contract: the sums of the rows so far (proofs/Blocks).
 use Prim.Native.Nat.{ℕ, _+_, _-_, _≤_, _<_}
 use mathlib.Core.Path.{_≡_, ap, subst, _∙_}
 use native.Mathlib.Omega.{arith}
@@ -6,7 +6,8 @@ use denote.Ref.{now}
 use borrow.Author.Needs.{needs}
 use Rattle.model.specs.Lists.{rowOf}
 use Rattle.model.specs.Span.{firstColumn}
-use Rattle.trial.specs.Trial.{around, own, ownRow, aroundRow, blockOf, RowTrial, BlockTrial}
+use Rattle.planes.specs.Parts.{blockOf}
+use Rattle.trial.specs.Trial.{around, own, ownRow, aroundRow, RowTrial, BlockTrial}
 use Rattle.trial.proofs.Blocks.{block-none, block-next, block-small, own-in, around-in, candidate-in}
 use Rattle.trial.proofs.trial_block.Statement.{statement}
 use Rattle.trial.proofs.trial_block.Tie as tie
@@ -16,8 +17,7 @@ Inv-loop right table squares share tolerance w h column row width height texture
     (i ≤ height) × BlockTrial w (around right share tolerance samples fronts marks combined reference) (own table texture depths limits) (blockOf column row width height) candidate i old new
 
 abbrev μ-loop : tie.MeasureT-loop
-μ-loop right table squares share tolerance w h column row width height texture depths limits candidate samples fronts marks combined reference first old₀ new₀ i₀ old new i =
-    height - i
+μ-loop right table squares share tolerance w h column row width height texture depths limits candidate samples fronts marks combined reference first old₀ new₀ i₀ old new i = height - i
 
 add-part-start : tie.Need-add-part-start Inv-loop μ-loop
 add-part-start c =
@@ -33,7 +33,6 @@ loop-holds : tie.Need-loop-holds Inv-loop μ-loop
 loop-holds c =
     let s = c .before .before .before .before .before .before .before .before .before in
     let a = s .args in
-    let p = s .pre in
     let o = around (a .right) (a .share) (a .tolerance) (now (a .samples)) (now (a .fronts)) (now (a .marks)) (now (a .combined)) (now (a .reference)) in
     let v = own (now (a .table)) (now (a .texture)) (now (a .depths)) (now (a .limits)) in
     let b = blockOf (a .column) (a .row) (a .width) (a .height) in
@@ -53,9 +52,6 @@ trial-at-requires c κs =
     let k : a .row + i < a .h = omega (arith, c .loop-test .taken, fit .bottom) in
     (p .0, (own-in (p .1 .0) (a .row + i) k, (around-in (p .1 .0) (a .row + i) k, (candidate-in fit i (c .loop-test .taken), (fit .some, (omega (arith, c .before .before .part-start .ensures .1), fit .wide))))))
 
-wide-requires : tie.Need-wide-requires Inv-loop μ-loop
-wide-requires c κs = search needs
-
 add-old : tie.Need-add-old Inv-loop μ-loop
 add-old c =
     let s = c .before .before .before .before .before .before .before .before .before .before .before .before .before in
@@ -64,10 +60,15 @@ add-old c =
     let o = around (a .right) (a .share) (a .tolerance) (now (a .samples)) (now (a .fronts)) (now (a .marks)) (now (a .combined)) (now (a .reference)) in
     let v = own (now (a .table)) (now (a .texture)) (now (a .depths)) (now (a .limits)) in
     let b = blockOf (a .column) (a .row) (a .width) (a .height) in
-    omega (arith, block-small (a .w) o v b (now (a .candidate)) (c .before .before .before .loop .inv .1) (p .1 .1) (p .1 .0 .depths) (c .before .before .before .loop .inv .0) .0, c .wide .ensures .1)
-
-wide-requires-2 : tie.Need-wide-requires-2 Inv-loop μ-loop
-wide-requires-2 c κs = search needs
+    let i = c .before .before .before .loop in
+    let t = c .before .before .loop-test .taken in
+    let row = c .before .trial-at in
+    let n : a .column + a .width - a .column ≡ a .width = omega arith in
+    let next =
+    block-next (a .w) o v b (now (a .candidate)) (i .inv .1) t (candidate-in (p .1 .1) (i .i) t)
+    (subst (λ (f : ℕ). RowTrial (aroundRow (a .w) o (a .row + i .i)) (ownRow (a .w) v (a .row + i .i)) (rowOf (now (a .candidate)) (a .width) (i .i)) f (row .result .old) (row .result .new))
+    (c .before .before .before .before .part-start .ensures .0 ∙ ap (firstColumn (a .right) (a .w) (a .column)) n) (row .ensures)) in
+    omega (arith, block-small (a .w) o v b (now (a .candidate)) next (p .1 .1) (p .1 .0 .depths) (omega (arith, t)) .0)
 
 add-new : tie.Need-add-new Inv-loop μ-loop
 add-new c =
@@ -77,13 +78,15 @@ add-new c =
     let o = around (a .right) (a .share) (a .tolerance) (now (a .samples)) (now (a .fronts)) (now (a .marks)) (now (a .combined)) (now (a .reference)) in
     let v = own (now (a .table)) (now (a .texture)) (now (a .depths)) (now (a .limits)) in
     let b = blockOf (a .column) (a .row) (a .width) (a .height) in
-    omega (arith, block-small (a .w) o v b (now (a .candidate)) (c .before .before .before .before .loop .inv .1) (p .1 .1) (p .1 .0 .depths) (c .before .before .before .before .loop .inv .0) .1, c .wide2 .ensures .1)
-
-add-i : tie.Need-add-i Inv-loop μ-loop
-add-i c = search needs
-
-loop-less : tie.Need-loop-less Inv-loop μ-loop
-loop-less c = search needs
+    let i = c .before .before .before .before .loop in
+    let t = c .before .before .before .loop-test .taken in
+    let row = c .before .before .trial-at in
+    let n : a .column + a .width - a .column ≡ a .width = omega arith in
+    let next =
+    block-next (a .w) o v b (now (a .candidate)) (i .inv .1) t (candidate-in (p .1 .1) (i .i) t)
+    (subst (λ (f : ℕ). RowTrial (aroundRow (a .w) o (a .row + i .i)) (ownRow (a .w) v (a .row + i .i)) (rowOf (now (a .candidate)) (a .width) (i .i)) f (row .result .old) (row .result .new))
+    (c .before .before .before .before .before .part-start .ensures .0 ∙ ap (firstColumn (a .right) (a .w) (a .column)) n) (row .ensures)) in
+    omega (arith, block-small (a .w) o v b (now (a .candidate)) next (p .1 .1) (p .1 .0 .depths) (omega (arith, t)) .1)
 
 loop-again : tie.Need-loop-again Inv-loop μ-loop
 loop-again c =
@@ -93,21 +96,20 @@ loop-again c =
     let o = around (a .right) (a .share) (a .tolerance) (now (a .samples)) (now (a .fronts)) (now (a .marks)) (now (a .combined)) (now (a .reference)) in
     let v = own (now (a .table)) (now (a .texture)) (now (a .depths)) (now (a .limits)) in
     let b = blockOf (a .column) (a .row) (a .width) (a .height) in
-    let i = c .before .before .before .before .loop .i in
+    let i = c .before .before .before .before .loop in
     let t = c .before .before .before .loop-test .taken in
+    let row = c .before .before .trial-at in
     let n : a .column + a .width - a .column ≡ a .width = omega arith in
-    let s = c .before .before .trial-at in (
-      omega (arith, t),
-      rw (c .before .wide .ensures .0, c .wide2 .ensures .0)
-          (block-next (a .w) o v b (now (a .candidate)) (c .before .before .before .before .loop .inv .1) t (candidate-in (p .1 .1) i t)
-          (subst (λ (f : ℕ). RowTrial (aroundRow (a .w) o (a .row + i)) (ownRow (a .w) v (a .row + i)) (rowOf (now (a .candidate)) (a .width) i) f (s .result .old) (s .result .new)) (c .before .before .before .before .before .part-start .ensures .0 ∙ ap (firstColumn (a .right) (a .w) (a .column)) n) (s .ensures))),
-    )
+    let next =
+    block-next (a .w) o v b (now (a .candidate)) (i .inv .1) t (candidate-in (p .1 .1) (i .i) t)
+    (subst (λ (f : ℕ). RowTrial (aroundRow (a .w) o (a .row + i .i)) (ownRow (a .w) v (a .row + i .i)) (rowOf (now (a .candidate)) (a .width) (i .i)) f (row .result .old) (row .result .new))
+    (c .before .before .before .before .before .part-start .ensures .0 ∙ ap (firstColumn (a .right) (a .w) (a .column)) n) (row .ensures)) in
+    (omega (arith, t), next)
 
 returns : tie.Need-returns Inv-loop μ-loop
 returns c =
     let s = c .before .before .before .before .before .before .before .before .before .before .before in
     let a = s .args in
-    let p = s .pre in
     let o = around (a .right) (a .share) (a .tolerance) (now (a .samples)) (now (a .fronts)) (now (a .marks)) (now (a .combined)) (now (a .reference)) in
     let v = own (now (a .table)) (now (a .texture)) (now (a .depths)) (now (a .limits)) in
     let b = blockOf (a .column) (a .row) (a .width) (a .height) in
@@ -126,11 +128,9 @@ trial-block-spec =
     loop-holds
     add-trial-at
     trial-at-requires
-    wide-requires
     add-old
-    wide-requires-2
     add-new
-    add-i
-    loop-less
+    (λ c. search needs)
+    (λ c. search needs)
     loop-again
     returns)

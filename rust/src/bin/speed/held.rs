@@ -2,7 +2,7 @@
 //! sample. Plain safe Rust, which trusts its caller: no call tests lengths or tables.
 
 use crate::scene::Scene;
-use luphwezane::{Block, Planes, Settings};
+use luphwezane::{Block, Pictures, Planes, PlanesMut, Settings};
 
 pub const SQUARES: [u32; 256] = {
     let mut table = [0; 256];
@@ -65,6 +65,20 @@ impl Held {
                 && planes.marks[v] == self.marks[v]
         };
         same(0) && same(1) && planes.combined == self.combined && total == self.total
+    }
+
+    /// The pictures and planes as the library's calls are lent them.
+    pub fn lent(&mut self) -> (Pictures<'_>, PlanesMut<'_>) {
+        let pictures = Pictures { textures: self.textures.each_ref().map(Vec::as_slice), reference: &self.reference };
+        let planes = PlanesMut {
+            depths: self.depths.each_mut().map(Vec::as_mut_slice),
+            samples: self.samples.each_mut().map(Vec::as_mut_slice),
+            fronts: self.fronts.each_mut().map(Vec::as_mut_slice),
+            limits: self.limits.each_mut().map(Vec::as_mut_slice),
+            marks: self.marks.each_mut().map(Vec::as_mut_slice),
+            combined: &mut self.combined,
+        };
+        (pictures, planes)
     }
 
     /// Bytes of packed marks in a row.

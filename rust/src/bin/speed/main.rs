@@ -2,7 +2,10 @@
 //! block's rows completely and against a span renderer written for speed in Rust. All three must answer alike.
 //!
 //! It prints the tables of docs/SPEED.md. `--short` measures little and is for seeing that the answers agree.
+//! `--instructions` counts instructions, which needs valgrind.
 
+mod calls;
+mod count;
 mod held;
 mod redraw;
 #[path = "../demo/scene.rs"]
@@ -23,22 +26,44 @@ struct Effort {
 }
 
 fn main() {
-    let effort = match std::env::args().nth(1).as_deref() {
-        None => Effort { rounds: 9, blocks: 200 },
-        Some("--short") => Effort { rounds: 1, blocks: 20 },
-        Some(_) => {
-            eprintln!("usage: speed [--short]");
-            std::process::exit(1);
+    let words: Vec<String> = std::env::args().skip(1).collect();
+    let words: Vec<&str> = words.iter().map(String::as_str).collect();
+    if let Err(message) = run(&words) {
+        eprintln!("{message}");
+        std::process::exit(1);
+    }
+}
+
+/// `--calls` is what `--instructions` runs under valgrind.
+fn run(words: &[&str]) -> Result<(), String> {
+    match *words {
+        [] => times(&Effort { rounds: 9, blocks: 200 }),
+        ["--short"] => times(&Effort { rounds: 1, blocks: 20 }),
+        ["--instructions"] => count::print()?,
+        ["--calls", call, program, rounds] => {
+            let rounds = rounds.parse().map_err(|_| format!("{rounds} is no number of rounds"))?;
+            println!("{}", calls::make(call, program, rounds).ok_or("no such call or program")?);
         }
-    };
+        _ => return Err("usage: speed [--short | --instructions]".to_string()),
+    }
+    Ok(())
+}
+
+/// Prints the tables of times, and the ratios that have targets.
+fn times(effort: &Effort) {
     println!("Ratios of times, medians over {} blocks and {} rounds. Below 1 the library is faster.\n", effort.blocks, effort.rounds);
     let stage = Stage::new(1024, 768, 96);
-    let at_8 = get_and_set(&stage, &effort);
-    open(&stage, &effort);
-    widths(&effort);
-    disparities(&effort);
-    println!("GET at 8 × 8 takes {:.3} of the full redraw (target: less than 0.1)", at_8[0]);
-    println!("and {:.2} of the span renderer (target: at most 1.25).", at_8[1]);
+    let [at_4, at_8, at_64] = get_and_set(&stage, effort);
+    let open = open(&stage, effort);
+    let wide = widths(effort);
+    disparities(effort);
+    println!("Targets:");
+    println!("GET / full redraw at 8 × 8: {:.3} (less than 0.1)", at_8.get[0]);
+    let three = |ratio: fn(&Ratios) -> f64| [&at_4, &at_8, &at_64].map(|ratios| format!("{:.2}", ratio(ratios))).join(", ");
+    println!("GET / span renderer at 4 × 4, 8 × 8, 64 × 64: {} (at most 1.0)", three(|ratios| ratios.get[1]));
+    println!("SET / span renderer at 4 × 4, 8 × 8, 64 × 64: {} (at most 1.7)", three(|ratios| ratios.set[1]));
+    println!("OPEN / span renderer: {:.2} (at most 1.1)", open[1]);
+    println!("GET at 4,096 columns / GET at 256 columns: {wide:.2} (flat)");
 }
 
 /// A scene and its settings.
@@ -135,22 +160,25 @@ fn ratios(times: &[[f64; 3]]) -> [f64; 2] {
     [1, 2].map(|other| median(times.iter().map(|t| t[0] / t[other]).collect()))
 }
 
-/// GET and SET at three block sizes. Answers GET's ratios at 8 × 8.
-fn get_and_set(stage: &Stage, effort: &Effort) -> [f64; 2] {
+/// The ratios of GET and SET at a block size.
+struct Ratios {
+    get: [f64; 2],
+    set: [f64; 2],
+}
+
+/// GET and SET at three block sizes.
+fn get_and_set(stage: &Stage, effort: &Effort) -> [Ratios; 3] {
     println!("| 1,024 × 768 | GET / full redraw | GET / span renderer | SET / full redraw | SET / span renderer |");
     println!("|---|---|---|---|---|");
-    let mut at_8 = [0.0; 2];
-    for (side, candidates) in [(4, 20), (8, 20), (64, 4)] {
+    let ratios = [(4, 20), (8, 20), (64, 4)].map(|(side, candidates)| {
         let random = &mut Random(1);
         let blocks: Vec<Trials> = (0..effort.blocks).map(|_| stage.trials(side, candidates, 12, random)).collect();
         let (get, set) = (get(stage, &blocks, effort.rounds), set(stage, &blocks, effort.rounds));
         println!("| {side} × {side} | {:.4} | {:.2} | {:.4} | {:.2} |", get[0], get[1], set[0], set[1]);
-        if side == 8 {
-            at_8 = get;
-        }
-    }
+        Ratios { get, set }
+    });
     println!();
-    at_8
+    ratios
 }
 
 fn get(stage: &Stage, blocks: &[Trials], rounds: usize) -> [f64; 2] {
@@ -183,7 +211,8 @@ fn set(stage: &Stage, blocks: &[Trials], rounds: usize) -> [f64; 2] {
     ratios(&times)
 }
 
-fn open(stage: &Stage, effort: &Effort) {
+/// OPEN's ratios.
+fn open(stage: &Stage, effort: &Effort) -> [f64; 2] {
     let mut times = Vec::new();
     for _ in 0..effort.rounds {
         let (library, session) = timed(|| stage.session());
@@ -197,10 +226,12 @@ fn open(stage: &Stage, effort: &Effort) {
     println!("| 1,024 × 768 | OPEN / full drawing | OPEN / span renderer |");
     println!("|---|---|---|");
     println!("| whole picture | {:.2} | {:.2} |\n", ratios[0], ratios[1]);
+    ratios
 }
 
-/// GET of the same 8 × 8 blocks in pictures of growing width, whose columns repeat those of the narrowest.
-fn widths(effort: &Effort) {
+/// GET of the same 8 × 8 blocks in pictures of growing width, whose columns repeat those of the narrowest. Answers the ratio
+/// of the widest.
+fn widths(effort: &Effort) -> f64 {
     let (narrow, random) = (Stage::new(256, 64, 96), &mut Random(1));
     let mut blocks: Vec<Trials> = (0..4 * effort.blocks).map(|_| narrow.trials(8, 20, 12, random)).collect();
     blocks.retain(|trials| (64..192).contains(&trials.block.column));
@@ -213,6 +244,7 @@ fn widths(effort: &Effort) {
         println!("| {} | {ratio:.2} |", session.settings().w);
     }
     println!();
+    growth[growth.len() - 1].0
 }
 
 /// GET of the same 8 × 8 blocks of the same pictures with growing disparities and candidates far from the depths that are

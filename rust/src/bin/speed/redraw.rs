@@ -24,16 +24,26 @@ impl Redraw {
         let (w, pixel) = (scene.w, Pixel { sample: 0, hole: false, front: 0 });
         let row = Row { depths: vec![0; w], pixels: vec![pixel; w], combined: vec![0; w], limits: vec![0; w] };
         let mut redraw = Redraw { held: Held::new(settings, scene), errors: vec![0; scene.h], row };
-        for y in 0..scene.h {
-            for view in 0..2 {
-                redraw.draw(view, y, None);
-                redraw.keep(view, y);
-            }
-            redraw.errors[y] = redraw.combine(1, y);
-            redraw.held.combined[y * w..(y + 1) * w].copy_from_slice(&redraw.row.combined);
-        }
-        redraw.held.total = redraw.errors.iter().sum();
+        redraw.draw_all();
         redraw
+    }
+
+    /// Draws both views and the combined picture.
+    pub fn draw_all(&mut self) {
+        let (w, h) = (self.held.w, self.held.h);
+        for y in 0..h {
+            self.render(0, y);
+            self.render(1, y);
+            self.errors[y] = self.combine(1, y);
+            self.held.combined[y * w..(y + 1) * w].copy_from_slice(&self.row.combined);
+        }
+        self.held.total = self.errors.iter().sum();
+    }
+
+    /// Draws row y of a view into its planes.
+    pub fn render(&mut self, view: usize, y: usize) {
+        self.draw(view, y, None);
+        self.keep(view, y);
     }
 
     pub fn get(&mut self, view: usize, block: Block, candidate: &[u8]) -> i64 {
@@ -50,8 +60,7 @@ impl Redraw {
         let (w, mut change) = (self.held.w, 0);
         self.held.write(view, block, candidate);
         for y in block.row as usize..(block.row + block.height) as usize {
-            self.draw(view, y, None);
-            self.keep(view, y);
+            self.render(view, y);
             let error = self.combine(view, y);
             self.held.combined[y * w..(y + 1) * w].copy_from_slice(&self.row.combined);
             change += error as i64 - self.errors[y] as i64;

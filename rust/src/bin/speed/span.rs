@@ -31,20 +31,34 @@ struct Drawn {
 impl Span {
     pub fn open(settings: &Settings, scene: &Scene) -> Span {
         let mut span = Span { held: Held::new(settings, scene), drawn: Vec::with_capacity(scene.w) };
-        let (w, h) = (scene.w, scene.h);
+        span.draw_all();
+        span
+    }
+
+    /// Draws both views and the combined picture.
+    pub fn draw_all(&mut self) {
+        let (w, h) = (self.held.w, self.held.h);
+        self.held.total = 0;
         for y in 0..h {
-            span.draw_row::<false>(y);
-            span.draw_row::<true>(y);
+            self.draw_row::<false>(y);
+            self.draw_row::<true>(y);
             let base = y * w;
             let mut error = 0;
             for x in 0..w {
-                let sample = combine(span.held.share, span.held.tolerance, span.shown(0, y, x), span.shown(1, y, x));
-                span.held.combined[base + x] = sample;
-                error += square(sample, span.held.reference[base + x]);
+                let sample = combine(self.held.share, self.held.tolerance, self.shown(0, y, x), self.shown(1, y, x));
+                self.held.combined[base + x] = sample;
+                error += square(sample, self.held.reference[base + x]);
             }
-            span.held.total += u64::from(error);
+            self.held.total += u64::from(error);
         }
-        span
+    }
+
+    /// Draws row y of a view into its planes.
+    pub fn render(&mut self, view: usize, y: usize) {
+        match view {
+            0 => self.draw_row::<false>(y),
+            _ => self.draw_row::<true>(y),
+        }
     }
 
     pub fn get(&self, view: usize, block: Block, candidate: &[u8]) -> i64 {

@@ -1,0 +1,91 @@
+-- `trial::measure` meets its contract: the two sums so far, entry by entry.
+use Prim.Native.Nat.{_+_, _-_, _≤_}
+use mathlib.Core.Path.{_≡_, _∙_}
+use native.Mathlib.Omega.{arith}
+use lib.ListN.{length, getD}
+use borrow.Author.Needs.{needs}
+use Rattle.model.specs.Row.{pixel}
+use Rattle.trial.specs.Trial.{around, Measured}
+use Rattle.trial.proofs.Rows.{measured-none, measured-next}
+use Rattle.trial.proofs.measure.Statement.{statement}
+use Rattle.trial.proofs.measure.Tie as tie
+
+abbrev Inv-loop : tie.InvT-loop
+Inv-loop right squares share tolerance samples fronts marks combined reference from s f m old₀ new₀ k₀ old new k =
+    (k ≤ length s)
+    × Measured (around right share tolerance samples fronts marks combined reference) from k (λ i. pixel (getD s i 0) (getD m i 0) (getD f i 0)) old new
+
+abbrev μ-loop : tie.MeasureT-loop
+μ-loop right squares share tolerance samples fronts marks combined reference from s f m old₀ new₀ k₀ old new k = length s - k
+
+loop-holds : tie.Need-loop-holds Inv-loop μ-loop
+loop-holds c = (omega arith, measured-none _ _ _)
+
+shared-slice-read-square-error : tie.Need-shared-slice-read-square-error Inv-loop μ-loop
+shared-slice-read-square-error c = omega (arith, c .before .loop-test .taken)
+
+shared-slice-read-t25 : tie.Need-shared-slice-read-t25 Inv-loop μ-loop
+shared-slice-read-t25 c = omega (arith, c .before .before .loop-test .taken, c .before .before .before .before .before .before .before .before .before .before .before .before .pre .1 .1 .1)
+
+shared-slice-read-square-error-2 : tie.Need-shared-slice-read-square-error-2 Inv-loop μ-loop
+shared-slice-read-square-error-2 c = omega (arith, c .before .before .before .loop-test .taken, c .before .before .before .before .before .before .before .before .before .before .before .before .before .pre .1 .1 .1)
+
+error-with-requires : tie.Need-error-with-requires Inv-loop μ-loop
+error-with-requires c κs =
+    let p = c .before .before .before .before .before .before .before .before .before .before .before .before .before .pre in
+    (p .0, (omega (arith, p .1), (omega (arith, p .1), (omega (arith, p .1), omega (arith, p .1)))))
+
+add-new : tie.Need-add-new Inv-loop μ-loop
+add-new c = omega (arith, c .before .before .before .before .before .before .loop .inv .0, c .before .before .before .before .before .before .loop .inv .1 .new-most, c .before .error-with .ensures .1, c .wide .ensures, c .before .before .before .before .before .before .before .before .before .before .before .before .before .before .before .pre .1 .1 .0)
+
+shared-slice-read-square-error-3 : tie.Need-shared-slice-read-square-error-3 Inv-loop μ-loop
+shared-slice-read-square-error-3 c = omega (arith, c .before .before .before .before .before .before .loop-test .taken, c .before .before .before .before .before .before .before .before .before .before .before .before .before .before .before .before .pre .1)
+
+shared-slice-read-square-error-4 : tie.Need-shared-slice-read-square-error-4 Inv-loop μ-loop
+shared-slice-read-square-error-4 c = omega (arith, c .before .before .before .before .before .before .before .loop-test .taken, c .before .before .before .before .before .before .before .before .before .before .before .before .before .before .before .before .before .pre .1)
+
+square-error-requires : tie.Need-square-error-requires Inv-loop μ-loop
+square-error-requires c κs = c .before .before .before .before .before .before .before .before .before .before .before .before .before .before .before .before .before .pre .0 .0
+
+add-old : tie.Need-add-old Inv-loop μ-loop
+add-old c = omega (arith, c .before .before .before .before .before .before .before .before .before .before .loop .inv .0, c .before .before .before .before .before .before .before .before .before .before .loop .inv .1 .old-most, c .before .square-error .ensures .1, c .wide2 .ensures, c .before .before .before .before .before .before .before .before .before .before .before .before .before .before .before .before .before .before .before .pre .1 .1 .0)
+
+loop-again : tie.Need-loop-again Inv-loop μ-loop
+loop-again c =
+    let i = c .before .before .before .before .before .before .before .before .before .before .loop in
+    let old = c .before .square-error .ensures in
+    let new = c .before .before .before .before .before .error-with .ensures in
+    let w = c .before .before .before .before .wide .ensures in (
+      omega (arith, c .before .before .before .before .before .before .before .before .before .loop-test .taken),
+      measured-next (i .inv .1) (c .wide2 .ensures ∙ old .0) (omega (arith, c .wide2 .ensures, old .1)) (w ∙ new .0) (omega (arith, w, new .1)),
+    )
+
+returns : tie.Need-returns Inv-loop μ-loop
+returns c =
+    let i = c .before .loop in
+    let e : i .k ≡ length (c .before .before .before .before .before .before .before .before .before .before .args .s .now) = omega (arith, i .inv .0, c .loop-test .left) in
+    rw e at (i .inv .1)
+
+pub measure-spec : {M : Type 1} → statement M
+measure-spec =
+    tie.close
+    (tie.spec
+    Inv-loop
+    μ-loop
+    loop-holds
+    (λ c. search needs)
+    shared-slice-read-square-error
+    shared-slice-read-t25
+    shared-slice-read-square-error-2
+    error-with-requires
+    (λ c κs. search needs)
+    add-new
+    shared-slice-read-square-error-3
+    shared-slice-read-square-error-4
+    square-error-requires
+    (λ c κs. search needs)
+    add-old
+    (λ c. search needs)
+    (λ c. search needs)
+    loop-again
+    returns)

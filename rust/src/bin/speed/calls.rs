@@ -1,0 +1,218 @@
+//! The calls whose instructions are counted: the same rounds of calls by the library, the span renderer and the full redraw,
+//! over planes that are there before the first round.
+
+use crate::held::Held;
+use crate::redraw::Redraw;
+use crate::span::Span;
+use crate::{Random, Stage, Trials};
+use luphwezane::{lent, Block, Row, Session, Settings, View};
+use std::hint::black_box;
+
+/// A kind of call; GET and SET of blocks of a side. The candidate of a refused GET has the wrong length.
+#[derive(Clone, Copy)]
+pub enum Call {
+    Get(usize),
+    Refused,
+    Set(usize),
+    Open,
+    Render,
+}
+
+/// The calls that are counted by position.
+pub const BY_POSITION: [(&str, Call); 6] = [
+    ("GET at 4 × 4", Call::Get(4)),
+    ("GET at 8 × 8", Call::Get(8)),
+    ("GET at 64 × 64", Call::Get(64)),
+    ("SET at 8 × 8", Call::Set(8)),
+    ("OPEN", Call::Open),
+    ("RENDER", Call::Render),
+];
+
+/// The calls of the library that are counted whole: they show what a GET costs whatever its block.
+pub const WHOLE: [(&str, Call); 2] = [("GET at 1 × 1", Call::Get(1)), ("GET refused", Call::Refused)];
+
+pub const LIBRARY: &str = "the library";
+pub const PROGRAMS: [&str; 3] = [LIBRARY, "span renderer", "full redraw"];
+
+/// The picture that the calls are about.
+pub fn stage() -> Stage {
+    Stage::new(512, 128, 96)
+}
+
+/// Makes rounds of a call and answers the sum of what they answer, which is the same for every program.
+pub fn make(call: &str, program: &str, rounds: usize) -> Option<i64> {
+    let (_, call) = *BY_POSITION.iter().chain(&WHOLE).find(|(name, _)| *name == call)?;
+    let stage = stage();
+    let Stage { settings, scene } = &stage;
+    match PROGRAMS.iter().position(|name| *name == program)? {
+        0 => Some(sum(Library::new(&stage), call, &stage, rounds)),
+        1 => Some(sum(Span::open(settings, scene), call, &stage, rounds)),
+        _ => Some(sum(Redraw::open(settings, scene), call, &stage, rounds)),
+    }
+}
+
+/// How many trials a round of GET or SET makes.
+pub fn trials(stage: &Stage, call: Call) -> usize {
+    blocks(stage, call).iter().map(|trials| trials.candidates.len()).sum()
+}
+
+/// How many positions rounds of a call draw: those of the spans, of the picture for OPEN, of every row for RENDER.
+pub fn positions(stage: &Stage, call: Call, rounds: usize) -> usize {
+    let picture = stage.scene.w * stage.scene.h;
+    let mut span = Span::open(&stage.settings, &stage.scene);
+    let mut drawn = |view, block, candidate: &[u8]| {
+        let count = span.positions(view as usize, block, candidate);
+        if let Call::Set(_) = call {
+            span.set(view as usize, block, candidate);
+        }
+        count
+    };
+    match call {
+        Call::Open => rounds * picture,
+        Call::Render => rounds * 2 * picture,
+        _ => (0..rounds).map(|_| each(&blocks(stage, call), &mut drawn)).sum::<i64>() as usize,
+    }
+}
+
+/// The blocks of a round of GET or SET and their candidates.
+fn blocks(stage: &Stage, call: Call) -> Vec<Trials> {
+    let (side, count, candidates) = match call {
+        Call::Get(64) => (64, 4, 2),
+        Call::Get(side) | Call::Set(side) => (side, 400 / side, 4),
+        Call::Refused => (1, 400, 4),
+        Call::Open | Call::Render => return Vec::new(),
+    };
+    let random = &mut Random(1);
+    let mut blocks: Vec<Trials> = (0..count).map(|_| stage.trials(side, candidates, 12, random)).collect();
+    if let Call::Refused = call {
+        blocks.iter_mut().for_each(|trials| trials.candidates.fill(Vec::new()));
+    }
+    blocks
+}
+
+/// The sum of the answers for all candidates.
+fn each(blocks: &[Trials], mut call: impl FnMut(View, Block, &[u8]) -> i64) -> i64 {
+    let mut sum = 0;
+    for Trials { view, block, candidates } in blocks {
+        for candidate in candidates {
+            sum += black_box(call(*view, *block, candidate));
+        }
+    }
+    sum
+}
+
+fn sum(mut program: impl Program, call: Call, stage: &Stage, rounds: usize) -> i64 {
+    let blocks = blocks(stage, call);
+    let mut sum = 0;
+    for _ in 0..rounds {
+        sum += match call {
+            Call::Get(_) | Call::Refused => each(&blocks, |view, block, candidate| program.get(view, block, candidate)),
+            Call::Set(_) => each(&blocks, |view, block, candidate| program.set(view, block, candidate)),
+            Call::Open => black_box(program.open()),
+            Call::Render => rows(stage.scene.h, |view, y| program.render(view, y)),
+        };
+    }
+    sum
+}
+
+/// The sum of the answers for all rows of both views.
+fn rows(h: usize, mut call: impl FnMut(View, usize) -> i64) -> i64 {
+    let mut sum = 0;
+    for view in View::BOTH {
+        for y in 0..h {
+            sum += black_box(call(view, y));
+        }
+    }
+    sum
+}
+
+/// A program that makes the calls. OPEN answers the total, RENDER the row's first sample.
+trait Program {
+    fn get(&mut self, view: View, block: Block, candidate: &[u8]) -> i64;
+    fn set(&mut self, view: View, block: Block, candidate: &[u8]) -> i64;
+    fn open(&mut self) -> i64;
+    fn render(&mut self, view: View, y: usize) -> i64;
+}
+
+/// The library: a session for GET and SET; planes and a row of its own for OPEN and RENDER, which are lent them.
+struct Library {
+    session: Session,
+    settings: Settings,
+    held: Held,
+    row: Row,
+}
+
+impl Library {
+    fn new(stage: &Stage) -> Library {
+        let Stage { settings, scene } = stage;
+        let row = Row { samples: vec![0; scene.w], marks: vec![0; scene.w.div_ceil(8)], fronts: vec![0; scene.w] };
+        Library { session: stage.session(), settings: *settings, held: Held::new(settings, scene), row }
+    }
+}
+
+impl Program for Library {
+    /// A refused GET answers its number, below zero.
+    fn get(&mut self, view: View, block: Block, candidate: &[u8]) -> i64 {
+        match self.session.get(view, block, candidate) {
+            Ok(change) => change,
+            Err(refusal) => -i64::from(refusal.number()),
+        }
+    }
+
+    fn set(&mut self, view: View, block: Block, candidate: &[u8]) -> i64 {
+        self.session.set(view, block, candidate).expect("SET accepts it")
+    }
+
+    fn open(&mut self) -> i64 {
+        let (pictures, mut planes) = self.held.lent();
+        lent::open(&mut self.settings, &pictures, &mut planes).expect("OPEN accepts it");
+        self.settings.total as i64
+    }
+
+    fn render(&mut self, view: View, y: usize) -> i64 {
+        let (part, Row { samples, marks, fronts }) = (y * self.held.w..(y + 1) * self.held.w, &mut self.row);
+        let (texture, depths) = (&self.held.textures[view as usize][part.clone()], &self.held.depths[view as usize][part]);
+        lent::render(&self.settings, view as u32, texture, depths, samples, marks, fronts).expect("RENDER accepts it");
+        i64::from(samples[0])
+    }
+}
+
+impl Program for Span {
+    fn get(&mut self, view: View, block: Block, candidate: &[u8]) -> i64 {
+        Span::get(self, view as usize, block, candidate)
+    }
+
+    fn set(&mut self, view: View, block: Block, candidate: &[u8]) -> i64 {
+        Span::set(self, view as usize, block, candidate)
+    }
+
+    fn open(&mut self) -> i64 {
+        self.draw_all();
+        self.held.total as i64
+    }
+
+    fn render(&mut self, view: View, y: usize) -> i64 {
+        Span::render(self, view as usize, y);
+        i64::from(self.held.samples[view as usize][y * self.held.w])
+    }
+}
+
+impl Program for Redraw {
+    fn get(&mut self, view: View, block: Block, candidate: &[u8]) -> i64 {
+        Redraw::get(self, view as usize, block, candidate)
+    }
+
+    fn set(&mut self, view: View, block: Block, candidate: &[u8]) -> i64 {
+        Redraw::set(self, view as usize, block, candidate)
+    }
+
+    fn open(&mut self) -> i64 {
+        self.draw_all();
+        self.held.total as i64
+    }
+
+    fn render(&mut self, view: View, y: usize) -> i64 {
+        Redraw::render(self, view as usize, y);
+        i64::from(self.held.samples[view as usize][y * self.held.w])
+    }
+}
