@@ -264,15 +264,15 @@ static inline int luph_open(luph_settings *s, const luph_pictures *p, const luph
 static inline int luph_get(const luph_settings *s, const luph_pictures *p, const luph_planes *q, uint32_t view, luph_block b,
     luph_in candidate, int64_t *change) {
     luph_private_copy copy;
-    if (luph_private_has_null(p, q)) {
+    if (candidate.data == NULL || luph_private_has_null(p, q)) {
         luph_private_fill(&copy, p, q);
         p = &copy.pictures;
         q = &copy.planes;
+        candidate = luph_private_in(candidate);
     }
-    const luph_in depths = luph_private_in(candidate);
-    int64_t found = 0;
+    int64_t found; /* written by an accepted call */
     const uint32_t number = luph_raw_get(s->w, s->h, s->left, s->right, s->share, s->tolerance, s->total,
-        LUPH_RAW_ALL(p, q), view, b, LUPH_RAW_SLICE(depths), &found);
+        LUPH_RAW_ALL(p, q), view, b, LUPH_RAW_SLICE(candidate), &found);
     if (number == 0) *change = found;
     return (int)number;
 }
@@ -284,15 +284,15 @@ static inline int luph_get(const luph_settings *s, const luph_pictures *p, const
 static inline int luph_set(luph_settings *s, const luph_pictures *p, const luph_planes *q, uint32_t view, luph_block b, luph_in candidate,
     int64_t *change) {
     luph_private_copy copy;
-    if (luph_private_has_null(p, q)) {
+    if (candidate.data == NULL || luph_private_has_null(p, q)) {
         luph_private_fill(&copy, p, q);
         p = &copy.pictures;
         q = &copy.planes;
+        candidate = luph_private_in(candidate);
     }
-    const luph_in depths = luph_private_in(candidate);
     int64_t found = 0;
     uint64_t total = 0;
-    const uint32_t number = luph_raw_set(*s, LUPH_RAW_ALL(p, q), view, b, LUPH_RAW_SLICE(depths), &found, &total);
+    const uint32_t number = luph_raw_set(*s, LUPH_RAW_ALL(p, q), view, b, LUPH_RAW_SLICE(candidate), &found, &total);
     if (number == 0) {
         *change = found;
         s->total = total;

@@ -22,10 +22,10 @@ use Rattle.planes.specs.Parts.{splice}
 use Rattle.planes.proofs.Splices.{length-splice}
 use Rattle.planes.proofs.Fills.{filled-rest, filled-change}
 use Rattle.planes.proofs.SeenParts.{first-fits}
-use Rattle.row.specs.Drawing.{firstAt, pixelBelow}
+use Rattle.row.specs.Drawing.{firstAt, spanTop, pixelBelow}
 use Rattle.row.proofs.Below.{below-pixel, first-within}
 use Rattle.row.proofs.Limits.{limit-least, limit-true}
-use Rattle.commit.specs.Commit.{spanTop, Relimited, Stretched, spanShown}
+use Rattle.commit.specs.Commit.{Relimited, Stretched, spanShown}
 use Rattle.commit.proofs.Shown.{length-shown, shown-filled}
 use Rattle.commit.proofs.Edits.{row-edited}
 use Rattle.commit.proofs.Limits.{limits-again}
@@ -39,7 +39,7 @@ pub record RowStep (r : Bool) (t : List ℕ) (w x n low high from to : ℕ) (can
   pub columns : n ≡ firstColumn r w x (length candidate) + length candidate
   pub depths : d′ ≡ splice d x candidate
   pub bottom : low ≡ spanLow (place t (seen r d)) (place t (seen r d′)) (firstColumn r w x (length candidate)) (n - 1)
-  pub top : high ≡ spanTop t (seen r d′) n (seen r e)
+  pub top : high ≡ spanTop t (seen r d′) (seen r e) n
   pub limits : Relimited t (seen r d′) (firstColumn r w x (length candidate)) n high (seen r e) (seen r e′)
   pub held : length e ≡ w
   pub same : length e′ ≡ length e

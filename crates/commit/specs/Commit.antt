@@ -19,7 +19,7 @@ use Rattle.planes.specs.Parts.{splice, Filled}
 use Rattle.signed.specs.Limits.{raisedOf}
 use Rattle.pixel.specs.Pairs.{nextPlace}
 use Rattle.marks.specs.Puts.{putMarks, heldPixel}
-use Rattle.row.specs.Drawing.{firstAt, pixelBelow, limitBelow, limitUnder, Ready}
+use Rattle.row.specs.Drawing.{firstAt, spanTop, pixelBelow, limitBelow, Ready}
 
 -- ---- the planes of a view
 
@@ -68,10 +68,6 @@ pub record Rewritten (right : Bool) (t : List ℕ) (x a least : ℕ) (candidate 
   pub depths : d′ ≡ splice d x candidate
   pub low : least ≡ spanLow (place t (seen right d)) (place t (seen right d′)) a (a + length candidate - 1)
 
--- What is taken for the limit of column n, the high end of the span. The rows of depths d and limits e are as the view reads them.
-abbrev pub spanTop : List ℕ → List ℕ → ℕ → List ℤ → ℕ
-spanTop t d n e = limitUnder e n (nextPlace t d (n - 1))
-
 -- The limits of the columns below n are written, down to column `stop`. Left of column a, once the held limit is the one to be written,
 -- so are all before it. The rows are as the view reads them.
 pub record Relimited (t d : List ℕ) (a n high : ℕ) (e e′ : List ℤ) : Type 0 where
@@ -82,7 +78,7 @@ pub record Relimited (t d : List ℕ) (a n high : ℕ) (e e′ : List ℤ) : Typ
 
 -- the high end, and the limits with it
 pub record Limited (t d : List ℕ) (a n high : ℕ) (e e′ : List ℤ) : Type 0 where
-  pub top : high ≡ spanTop t d n e
+  pub top : high ≡ spanTop t d e n
   pub limits : Relimited t d a n high e e′
 
 -- Row y of the depths d and of the limits e, with the candidate written from column x on: n is the column after the candidate's last, as
@@ -91,7 +87,7 @@ pub record Changed (right : Bool) (t : List ℕ) (w y x : ℕ) (candidate d d′
   pub columns : n ≡ firstColumn right w x (length candidate) + length candidate
   pub depths : d′ ≡ splice d (y * w + x) candidate
   pub bottom : low ≡ spanLow (place t (seen right (rowOf d w y))) (place t (seen right (rowOf d′ w y))) (firstColumn right w x (length candidate)) (n - 1)
-  pub top : high ≡ spanTop t (seen right (rowOf d′ w y)) n (seen right (rowOf e w y))
+  pub top : high ≡ spanTop t (seen right (rowOf d′ w y)) (seen right (rowOf e w y)) n
   pub limits : Relimited t (seen right (rowOf d′ w y)) (firstColumn right w x (length candidate)) n high (seen right (rowOf e w y)) (seen right (rowOf e′ w y))
   pub others : (k : ℕ) → (k ≡ y → ⊥) → rowOf e′ w k ≡ rowOf e w k
 

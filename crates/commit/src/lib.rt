@@ -10,8 +10,8 @@ ghost use Rattle.model.specs.Marks.{markBytes};
 ghost use Rattle.model.specs.Planes.{view};
 ghost use Rattle.model.specs.Refusals.{tableOk};
 ghost use Rattle.pixel.specs.Pairs.{nextPlace};
-ghost use Rattle.row.specs.Drawing.{Ready};
-ghost use Rattle.commit.specs.Commit.{RowIn, Rewritten, spanTop, Relimited, Limited, Changed, Drawable, PartDrawn, Redrawn, RowRedrawn, RowCommitted};
+ghost use Rattle.row.specs.Drawing.{spanTop, Ready};
+ghost use Rattle.commit.specs.Commit.{RowIn, Rewritten, Relimited, Limited, Changed, Drawable, PartDrawn, Redrawn, RowRedrawn, RowCommitted};
 
 // An edit of a row: the column after its last, as the view reads the row, and the two ends of its span.
 pub struct Edit {
@@ -64,7 +64,7 @@ fn edit_row(
 fn high_of(right: bool, table: &[u16; 256], depths: &[u8], limits: &[i16], columns: usize) -> u32
     requires { ⌜ (tableOk (now table) ≡ true) × (length (now depths) ≤ 4096) ⌝ }
     requires { ⌜ (0 < columns) × (columns ≤ length (now depths)) ⌝ }
-    ensures { λ r. ⌜ r ≡ spanTop (now (table .entry)) (seen right (now (depths .entry))) columns (seen right (now (limits .entry))) ⌝ }
+    ensures { λ r. ⌜ r ≡ spanTop (now (table .entry)) (seen right (now (depths .entry))) (seen right (now (limits .entry))) columns ⌝ }
 {
     let next = row::next_place(right, table, depths, columns - 1);
     row::limit_under(right, limits, columns, next)

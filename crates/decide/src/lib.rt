@@ -31,7 +31,7 @@ fn refused(refusal: Refusal, total: u64) -> Decision
 }
 
 // The highest total: 65,025 for each position.
-fn most_total(w: u32, h: u32) -> u64
+pub fn most_total(w: u32, h: u32) -> u64
     requires { ⌜ (w ≤ 4096) × (h ≤ 4096) ⌝ }
     ensures { λ r. ⌜ (r ≡ 65025 * (w * h)) × (r ≤ 65025 * 16777216) ⌝ }
 {
@@ -39,7 +39,7 @@ fn most_total(w: u32, h: u32) -> u64
 }
 
 // 8 where the total with the change is out of range, else the change.
-fn judge(total: u64, old: u64, new: u64, most: u64) -> Decision
+pub fn judge(total: u64, old: u64, new: u64, most: u64) -> Decision
     requires { ⌜ (old ≤ 65025 * 16777216) × ((new ≤ 65025 * 16777216) × (most ≤ 65025 * 16777216)) ⌝ }
     ensures { λ r. ⌜ Judged total old new most r ⌝ }
 {
@@ -92,7 +92,6 @@ fn try_candidate(
         (heldOf (now (leftSamples .entry)) (now (leftFronts .entry)) (now (leftLimits .entry)) (now (leftMarks .entry)) (now (rightSamples .entry)) (now (rightFronts .entry)) (now (rightLimits .entry)) (now (rightMarks .entry)) (now (combined .entry)))
         view block (now (candidate .entry)) (r .old) (r .new) ⌝ }
 {
-    let squares = sums::squares();
     let columns = w as usize;
     let rows = h as usize;
     let column = block.column as usize;
@@ -103,7 +102,6 @@ fn try_candidate(
         return trial::trial_block(
             true,
             rightTable,
-            &squares,
             share,
             tolerance,
             columns,
@@ -126,7 +124,6 @@ fn try_candidate(
     trial::trial_block(
         false,
         leftTable,
-        &squares,
         share,
         tolerance,
         columns,

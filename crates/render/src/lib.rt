@@ -62,10 +62,7 @@ fn strip_refusal(
     if !strip_sized(w as usize, texture, depths, samples, marks, fronts) {
         return Refusal::Plane;
     }
-    if !validate::table_ok(left) {
-        return Refusal::Table;
-    }
-    if !validate::table_ok(right) {
+    if !validate::tables_ok(left, right) {
         return Refusal::Table;
     }
     if 1 < view {

@@ -14,7 +14,7 @@ use Rattle.model.specs.Refusals.{tableOk}
 use Rattle.planes.specs.Parts.{splice, Painted}
 use Rattle.signed.specs.Limits.{raisedOf}
 use Rattle.pixel.specs.declared.Pair.{Pair}
-use Rattle.pixel.specs.Pairs.{Stands, Among}
+use Rattle.pixel.specs.Pairs.{nextPlace, Stands, Among}
 
 -- the first position at or past x
 abbrev pub firstAt : ℕ → ℕ
@@ -32,6 +32,10 @@ limitBelow f high n c = least f high c (n - c)
 -- `next` is not believed.
 unfoldable pub limitUnder : List ℤ → ℕ → ℕ → ℕ
 limitUnder e n next = cond (ltb n (length e)) (min next (raisedOf (getD e n (pos 0)))) next
+
+-- The high end of the span of an edit of columns below n: the rows of depths d and limits e are as the view reads them.
+abbrev pub spanTop : List ℕ → List ℕ → List ℤ → ℕ → ℕ
+spanTop t d e n = limitUnder e n (nextPlace t d (n - 1))
 
 -- a row that can be drawn
 pub record Ready (l : Line) : Type 0 where

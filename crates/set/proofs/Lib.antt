@@ -1,2 +1,2 @@
 -- Why SET keeps its promise.
-pub mod Writing
+pub mod Settling

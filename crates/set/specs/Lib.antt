@@ -1,2 +1,2 @@
 -- What SET leaves.
-pub mod Written
+pub mod Settled

@@ -1,23 +1,125 @@
 // SET writes a candidate into a block of a view, and brings the held planes and the total up to date.
+use decide::Decision;
 use model::Block;
 use model::Edited;
 use model::Settings;
+use validate::Lengths;
+use validate::ViewLengths;
 ghost use mathlib.Core.Path.{_≡_};
+ghost use mathlib.Core.Bool.{true};
+ghost use Prim.Native.Nat.{_≤_};
 ghost use lib.ListN.{length};
 ghost use Rattle.model.specs.Planes as planes;
-ghost use Rattle.model.specs.Refusals.{earlyNumber};
+ghost use Rattle.model.specs.Refusals.{tableOk, earlyNumber};
 ghost use Rattle.model.specs.Promises.{SetPost};
+ghost use Rattle.trial.specs.Trial.{around, own, Sized, Fits};
+ghost use Rattle.commit.specs.Commit as commit;
 ghost use Rattle.decide.specs.Decided.{settingsOf, heldOf};
-ghost use Rattle.set.specs.Written.{Wrote};
+ghost use Rattle.set.specs.Settled.{OwnSettled, Settled};
 
-// Writes the candidate into the block in the view's depths, and brings that view's planes and the combined picture up to date.
-fn write_view<'a>(
+// Tries the candidate in one view and, where the total stays in range, writes it: texture, depths, samples, fronts, limits and marks are the
+// view's own, and samples2, fronts2 and marks2 the other view's.
+fn settle(
+    right: bool,
+    table: &[u16; 256],
+    share: u8,
+    tolerance: u8,
+    total: u64,
+    w: u32,
+    h: u32,
+    block: Block,
+    texture: &[u8],
+    candidate: &[u8],
+    depths: &mut [u8],
+    samples: &mut [u8],
+    fronts: &mut [u8],
+    limits: &mut [i16],
+    marks: &mut [u8],
+    samples2: &[u8],
+    fronts2: &[u8],
+    marks2: &[u8],
+    combined: &mut [u8],
+    reference: &[u8],
+) -> Decision
+    requires { ⌜ (tableOk (now table) ≡ true) × (share ≤ 64) ⌝ }
+    requires { ⌜ Sized w h (around right share tolerance (now samples2) (now fronts2) (now marks2) (now combined) (now reference)) (own (now table) (now texture) (now depths) (now limits)) ⌝ }
+    requires { ⌜ commit.Sized w h (now texture) (now depths) (planes.view (now samples) (now fronts) (now limits) (now marks)) ⌝ }
+    requires { ⌜ Fits w h block (now candidate) ⌝ }
+    ensures { λ r. ⌜ OwnSettled right (now (table .entry)) share tolerance total w h block (now (texture .entry)) (now (candidate .entry))
+        (now (samples2 .entry)) (now (fronts2 .entry)) (now (marks2 .entry)) (now (reference .entry))
+        (now (depths .entry)) (now (depths .exit))
+        (planes.view (now (samples .entry)) (now (fronts .entry)) (now (limits .entry)) (now (marks .entry)))
+        (planes.view (now (samples .exit)) (now (fronts .exit)) (now (limits .exit)) (now (marks .exit)))
+        (now (combined .entry)) (now (combined .exit)) r ⌝ }
+{
+    let columns = w as usize;
+    let rows = h as usize;
+    let column = block.column as usize;
+    let row = block.row as usize;
+    let width = block.width as usize;
+    let height = block.height as usize;
+    let sums = trial::trial_block(
+        right,
+        table,
+        share,
+        tolerance,
+        columns,
+        rows,
+        column,
+        row,
+        width,
+        height,
+        texture,
+        depths,
+        limits,
+        candidate,
+        samples2,
+        fronts2,
+        marks2,
+        combined,
+        reference,
+    );
+    let most = decide::most_total(w, h);
+    let decision = decide::judge(total, sums.old, sums.new, most);
+    let refusal = decision.refusal;
+    if model::number(refusal) != 0 {
+        return decision;
+    }
+    combine::set_block(
+        right,
+        table,
+        share,
+        tolerance,
+        columns,
+        rows,
+        column,
+        row,
+        width,
+        height,
+        texture,
+        candidate,
+        depths,
+        samples,
+        fronts,
+        limits,
+        marks,
+        samples2,
+        fronts2,
+        marks2,
+        combined,
+    );
+    decision
+}
+
+// Settles the candidate in the view that the call names.
+fn settle_view<'a>(
     w: u32,
     h: u32,
     leftTable: &'a [u16; 256],
     rightTable: &'a [u16; 256],
     share: u8,
     tolerance: u8,
+    total: u64,
     left: &[u8],
     right: &[u8],
     reference: &[u8],
@@ -35,38 +137,30 @@ fn write_view<'a>(
     view: u32,
     block: Block,
     candidate: &[u8],
-)
-    requires { ⌜ earlyNumber (settingsOf w h (now leftTable) (now rightTable) share tolerance 0)
+) -> Decision
+    requires { ⌜ earlyNumber (settingsOf w h (now leftTable) (now rightTable) share tolerance total)
         (planes.pictures (now left) (now right) (now reference))
         (planes.depths (now leftDepths) (now rightDepths))
         (heldOf (now leftSamples) (now leftFronts) (now leftLimits) (now leftMarks) (now rightSamples) (now rightFronts) (now rightLimits) (now rightMarks) (now combined))
         view block (length (now candidate)) ≡ 0 ⌝ }
-    ensures { λ _. ⌜ Wrote (settingsOf w h (now (leftTable .entry)) (now (rightTable .entry)) share tolerance 0)
+    ensures { λ r. ⌜ Settled (settingsOf w h (now (leftTable .entry)) (now (rightTable .entry)) share tolerance total)
         (planes.pictures (now (left .entry)) (now (right .entry)) (now (reference .entry)))
         (planes.depths (now (leftDepths .entry)) (now (rightDepths .entry)))
         (planes.depths (now (leftDepths .exit)) (now (rightDepths .exit)))
         (heldOf (now (leftSamples .entry)) (now (leftFronts .entry)) (now (leftLimits .entry)) (now (leftMarks .entry)) (now (rightSamples .entry)) (now (rightFronts .entry)) (now (rightLimits .entry)) (now (rightMarks .entry)) (now (combined .entry)))
         (heldOf (now (leftSamples .exit)) (now (leftFronts .exit)) (now (leftLimits .exit)) (now (leftMarks .exit)) (now (rightSamples .exit)) (now (rightFronts .exit)) (now (rightLimits .exit)) (now (rightMarks .exit)) (now (combined .exit)))
-        view block (now (candidate .entry)) ⌝ }
+        view block (now (candidate .entry)) r ⌝ }
 {
-    let columns = w as usize;
-    let rows = h as usize;
-    let column = block.column as usize;
-    let row = block.row as usize;
-    let width = block.width as usize;
-    let height = block.height as usize;
     if view == 1 {
-        combine::set_block(
+        return settle(
             true,
             rightTable,
             share,
             tolerance,
-            columns,
-            rows,
-            column,
-            row,
-            width,
-            height,
+            total,
+            w,
+            h,
+            block,
             right,
             candidate,
             rightDepths,
@@ -78,20 +172,18 @@ fn write_view<'a>(
             leftFronts,
             leftMarks,
             combined,
+            reference,
         );
-        return;
     }
-    combine::set_block(
+    settle(
         false,
         leftTable,
         share,
         tolerance,
-        columns,
-        rows,
-        column,
-        row,
-        width,
-        height,
+        total,
+        w,
+        h,
+        block,
         left,
         candidate,
         leftDepths,
@@ -103,7 +195,8 @@ fn write_view<'a>(
         rightFronts,
         rightMarks,
         combined,
-    );
+        reference,
+    )
 }
 
 // The change of the total and the settings with the new total, or the first refusal that applies, which leaves everything as it was.
@@ -135,7 +228,45 @@ pub fn set(
         (planes.held (planes.view (now (leftSamples .exit)) (now (leftFronts .exit)) (now (leftLimits .exit)) (now (leftMarks .exit))) (planes.view (now (rightSamples .exit)) (now (rightFronts .exit)) (now (rightLimits .exit)) (now (rightMarks .exit))) (now (combined .exit)))
         view block (now (candidate .entry)) r ⌝ }
 {
-    let decision = decide::decide(
+    let lengths = Lengths {
+        left: ViewLengths {
+            texture: left.len(),
+            depths: leftDepths.len(),
+            samples: leftSamples.len(),
+            fronts: leftFronts.len(),
+            limits: leftLimits.len(),
+            marks: leftMarks.len(),
+        },
+        right: ViewLengths {
+            texture: right.len(),
+            depths: rightDepths.len(),
+            samples: rightSamples.len(),
+            fronts: rightFronts.len(),
+            limits: rightLimits.len(),
+            marks: rightMarks.len(),
+        },
+        reference: reference.len(),
+        combined: combined.len(),
+    };
+    let first = validate::early(
+        settings.w,
+        settings.h,
+        &settings.left,
+        &settings.right,
+        settings.share,
+        lengths,
+        view,
+        block,
+        candidate.len(),
+    );
+    if model::number(first) != 0 {
+        return Edited {
+            refusal: first,
+            change: 0,
+            settings: settings,
+        };
+    }
+    let decision = settle_view(
         settings.w,
         settings.h,
         &settings.left,
@@ -161,42 +292,10 @@ pub fn set(
         block,
         candidate,
     );
-    let refusal = decision.refusal;
-    let change = decision.change;
-    if model::number(refusal) != 0 {
-        return Edited {
-            refusal: refusal,
-            change: change,
-            settings: settings,
-        };
-    }
-    write_view(
-        settings.w,
-        settings.h,
-        &settings.left,
-        &settings.right,
-        settings.share,
-        settings.tolerance,
-        left,
-        right,
-        reference,
-        leftDepths,
-        rightDepths,
-        leftSamples,
-        leftFronts,
-        leftLimits,
-        leftMarks,
-        rightSamples,
-        rightFronts,
-        rightLimits,
-        rightMarks,
-        combined,
-        view,
-        block,
-        candidate,
-    );
     let mut next = settings;
     next.total = decision.total;
+    let refusal = decision.refusal;
+    let change = decision.change;
     Edited {
         refusal: refusal,
         change: change,

@@ -20,8 +20,7 @@ use Rattle.planes.specs.Parts.{splice}
 use Rattle.marks.specs.Puts.{heldPixel}
 use Rattle.sums.specs.Sides.{paired}
 use Rattle.pixel.specs.declared.Pair.{Pair}
-use Rattle.pixel.specs.Pairs.{nextPlace}
-use Rattle.row.specs.Drawing.{firstAt, limitUnder, pixelBelow, Ahead, Passed}
+use Rattle.row.specs.Drawing.{firstAt, spanTop, pixelBelow, Ahead, Passed}
 
 -- ---- the span's positions
 
@@ -31,7 +30,7 @@ spanStart f g first n = firstAt (spanLow f g first (first + n - 1))
 
 -- the position after the last of the span of an edit of columns below n, by what is held
 abbrev pub spanStop : List ℕ → List ℕ → List ℤ → ℕ → ℕ
-spanStop t d e n = firstAt (limitUnder e n (nextPlace t d (n - 1)))
+spanStop t d e n = firstAt (spanTop t d e n)
 
 -- ---- one row
 

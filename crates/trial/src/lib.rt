@@ -518,7 +518,6 @@ fn trial_at(
 pub fn trial_block(
     right: bool,
     table: &[u16; 256],
-    squares: &[u16; 256],
     share: u8,
     tolerance: u8,
     w: usize,
@@ -537,12 +536,13 @@ pub fn trial_block(
     combined: &[u8],
     reference: &[u8],
 ) -> Sums
-    requires { ⌜ (tableOk (now table) ≡ true) × ((Squares (now squares)) × (share ≤ 64)) ⌝ }
+    requires { ⌜ (tableOk (now table) ≡ true) × (share ≤ 64) ⌝ }
     requires { ⌜ Sized w h (around right share tolerance (now samples) (now fronts) (now marks) (now combined) (now reference)) (own (now table) (now texture) (now depths) (now limits)) ⌝ }
     requires { ⌜ Fits w h (blockOf column row width height) (now candidate) ⌝ }
     ensures { λ r. ⌜ BlockTrial w (around right share tolerance (now (samples .entry)) (now (fronts .entry)) (now (marks .entry)) (now (combined .entry)) (now (reference .entry)))
         (own (now (table .entry)) (now (texture .entry)) (now (depths .entry)) (now (limits .entry))) (blockOf column row width height) (now (candidate .entry)) height (r .old) (r .new) ⌝ }
 {
+    let squares = sums::squares();
     let first = row::part_start(right, w, column, column + width);
     let mut old = 0u64;
     let mut new = 0u64;
@@ -551,7 +551,7 @@ pub fn trial_block(
         let s = trial_at(
             right,
             table,
-            squares,
+            &squares,
             share,
             tolerance,
             w,
@@ -559,15 +559,15 @@ pub fn trial_block(
             width,
             i,
             first,
-            texture,
-            depths,
-            limits,
-            candidate,
-            samples,
-            fronts,
-            marks,
-            combined,
-            reference,
+            &texture[..],
+            &depths[..],
+            &limits[..],
+            &candidate[..],
+            &samples[..],
+            &fronts[..],
+            &marks[..],
+            &combined[..],
+            &reference[..],
         );
         old += s.old;
         new += s.new;

@@ -1,7 +1,7 @@
 -- The tests over lengths as plain facts, and the joined bits of a table's entries.
 use Prim.Native.Nat.{ℕ, suc, _+_, _*_, _<_, _≤_}
 use mathlib.Core.Path.{_≡_, refl, sym}
-use mathlib.Core.Bool.{Bool, true, false, _&&_, and-assoc}
+use mathlib.Core.Bool.{Bool, true, false, _&&_}
 use mathlib.Core.List.{List}
 use native.Mathlib.Omega.{arith}
 use native.Mathlib.Numerals.{add-one}
@@ -98,14 +98,22 @@ or-ten-bits m x =
     let l = leb-true x 1023 (and-right (leb m 1023) (leb x 1023) t) in
     le-leb (bitOr m x) 1023 (omega (arith, or-lt 10 m x (omega arith) (omega arith))))
 
--- entry i joins the bits of the entries before it
-pub table-next : (t : List ℕ) (most i : ℕ) → i < length t → (leb (bitOr most (getD t i 0)) 1023 && tableOk (drop (i + 1) t)) ≡ (leb most 1023 && tableOk (drop i t))
-unfolding tableOk
-table-next t most i h =
-    rw (add-one i, drop-cons t i 0 h, or-ten-bits most (getD t i 0))
-    (and-assoc (leb most 1023) (leb (getD t i 0) 1023) (tableOk (drop (suc i) t)))
+-- five tests in another order
+and-turn : (a x y l r : Bool) → ((a && (x && y)) && (l && r)) ≡ (a && ((x && l) && (y && r)))
+and-turn false x y l r = refl
+and-turn true false y l r = refl
+and-turn true true true l r = refl
+and-turn true true false true r = refl
+and-turn true true false false r = refl
 
--- past the last entry the joined bits decide
-pub table-end : (t : List ℕ) (most i : ℕ) → length t ≤ i → leb most 1023 ≡ (leb most 1023 && tableOk (drop i t))
+-- the entries at i join the bits of those before them
+pub tables-next : (l r : List ℕ) (most i : ℕ) → i < length l → i < length r → (leb (bitOr most (bitOr (getD l i 0) (getD r i 0))) 1023 && (tableOk (drop (i + 1) l) && tableOk (drop (i + 1) r))) ≡ (leb most 1023 && (tableOk (drop i l) && tableOk (drop i r)))
 unfolding tableOk
-table-end t most i h = rw (drop-of-length-le t h) (bool-cases (leb most 1023) (λ e. rw e) (λ e. rw e))
+tables-next l r most i h k =
+    rw (add-one i, drop-cons l i 0 h, drop-cons r i 0 k, or-ten-bits most (bitOr (getD l i 0) (getD r i 0)), or-ten-bits (getD l i 0) (getD r i 0))
+    (and-turn (leb most 1023) (leb (getD l i 0) 1023) (leb (getD r i 0) 1023) (tableOk (drop (suc i) l)) (tableOk (drop (suc i) r)))
+
+-- past the last entries the joined bits decide
+pub tables-end : (l r : List ℕ) (most i : ℕ) → length l ≤ i → length r ≤ i → leb most 1023 ≡ (leb most 1023 && (tableOk (drop i l) && tableOk (drop i r)))
+unfolding tableOk
+tables-end l r most i h k = rw (drop-of-length-le l h, drop-of-length-le r k) (bool-cases (leb most 1023) (λ e. rw e) (λ e. rw e))

@@ -2,6 +2,7 @@
 use model::Block;
 use model::Refusal;
 ghost use mathlib.Core.Path.{_≡_};
+ghost use mathlib.Core.Bool.{_&&_};
 ghost use Prim.Native.Nat.{_≤_};
 ghost use Rattle.model.specs.Refusals.{numberOf, sideOk, tableOk, blockOk, ownThen};
 ghost use Rattle.validate.specs.Numbers.{viewFits, planesFit, commonNumber, sides};
@@ -34,16 +35,17 @@ pub fn side_ok(n: u32) -> bool
     n <= 4096
 }
 
-// No entry of the table is above 1,023, which is ten bits: the loop joins the bits of all entries and never stops early, which is the
+// No entry of either table is above 1,023, which is ten bits: one loop joins the bits of all entries and never stops early, which is the
 // quicker way.
-pub fn table_ok(table: &[u16; 256]) -> bool
-    ensures { λ r. ⌜ r ≡ tableOk (now (table .entry)) ⌝ }
+pub fn tables_ok(left: &[u16; 256], right: &[u16; 256]) -> bool
+    ensures { λ r. ⌜ r ≡ (tableOk (now (left .entry)) && tableOk (now (right .entry))) ⌝ }
 {
-    let entries = &table[..];
+    let lefts = &left[..];
+    let rights = &right[..];
     let mut most: u16 = 0;
     let mut i: usize = 0;
-    while i < entries.len() {
-        most = most | entries[i];
+    while i < 256 {
+        most = most | (lefts[i] | rights[i]);
         i += 1;
     }
     most <= 1023
@@ -112,10 +114,7 @@ pub fn common(
     if !planes_sized(w, h, lengths) {
         return Refusal::Plane;
     }
-    if !table_ok(left) {
-        return Refusal::Table;
-    }
-    if !table_ok(right) {
+    if !tables_ok(left, right) {
         return Refusal::Table;
     }
     if 64 < share {
@@ -158,11 +157,11 @@ pub fn own(w: u32, h: u32, view: u32, block: Block, n: usize) -> Refusal
 }
 
 // 1, 2, 3, 4, 6, 5 or 7, the first that applies: all that GET and SET refuse before they try the candidate.
-pub fn early(
+pub fn early<'a>(
     w: u32,
     h: u32,
-    left: &[u16; 256],
-    right: &[u16; 256],
+    left: &'a [u16; 256],
+    right: &'a [u16; 256],
     share: u8,
     lengths: Lengths,
     view: u32,

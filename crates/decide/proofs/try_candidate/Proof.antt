@@ -5,9 +5,6 @@ use borrow.Author.Needs.{needs}
 use Rattle.decide.proofs.try_candidate.Statement.{statement}
 use Rattle.decide.proofs.try_candidate.Tie as tie
 
-squares-requires : tie.Need-squares-requires
-squares-requires c κs = search needs
-
 cast-column : tie.Need-cast-column
 cast-column c = search needs
 
@@ -22,31 +19,30 @@ cast-height c = search needs
 
 trial-block-requires : tie.Need-trial-block-requires
 trial-block-requires c κs =
-    let start = c .before .before .before .before .before .before .before .before .before .before .before .before .before .before .before .before .before .before .before .before in
+    let start = c .before .before .before .before .before .before .before .before .before .before .before .before .before .before .before .before .before .before in
     let f = passed _ _ _ _ _ _ (start .args .candidate .now) (start .pre) in
-    ((f .table true, (c .before .before .before .before .before .before .squares .ensures, f .common .share)), (f .sized true, f .fits))
+    ((f .table true, f .common .share), (f .sized true, f .fits))
 
 returns : tie.Need-returns
 returns c =
-    let start = c .before .before .before .before .before .before .before .before .before .before .before .before .before .before .before .before .before .before .before .before .before in
-    tried _ _ _ _ _ _ _ true (passed _ _ _ _ _ _ (start .args .candidate .now) (start .pre)) (eq-eqb _ _ (c .before .before .if1 .taken)) (c .trial-block .ensures)
+    let start = c .before .before .before .before .before .before .before .before .before .before .before .before .before .before .before .before .before .before .before in
+    tried _ _ _ _ _ _ _ true (passed _ _ _ _ _ _ (start .args .candidate .now) (start .pre)) (eq-eqb _ _ (c .before .if1 .taken)) (c .trial-block .ensures)
 
 trial-block-requires-2 : tie.Need-trial-block-requires-2
 trial-block-requires-2 c κs =
-    let start = c .before .before .before .before .before .before .before .before .before .before .before .before .before .before .before .before .before .before .before .before in
+    let start = c .before .before .before .before .before .before .before .before .before .before .before .before .before .before .before .before .before .before in
     let f = passed _ _ _ _ _ _ (start .args .candidate .now) (start .pre) in
-    ((f .table false, (c .before .before .before .before .before .before .squares .ensures, f .common .share)), (f .sized false, f .fits))
+    ((f .table false, f .common .share), (f .sized false, f .fits))
 
 returns-2 : tie.Need-returns-2
 returns-2 c =
-    let start = c .before .before .before .before .before .before .before .before .before .before .before .before .before .before .before .before .before .before .before .before .before in
-    tried _ _ _ _ _ _ _ false (passed _ _ _ _ _ _ (start .args .candidate .now) (start .pre)) (ne-eqb _ _ (c .before .before .if1 .left)) (c .trial-block2 .ensures)
+    let start = c .before .before .before .before .before .before .before .before .before .before .before .before .before .before .before .before .before .before .before in
+    tried _ _ _ _ _ _ _ false (passed _ _ _ _ _ _ (start .args .candidate .now) (start .pre)) (ne-eqb _ _ (c .before .if1 .left)) (c .trial-block2 .ensures)
 
 pub try-candidate-spec : {M : Type 1} → statement M
 try-candidate-spec =
     tie.close
     (tie.spec
-    squares-requires
     cast-column
     cast-row
     cast-width

@@ -1,5 +1,5 @@
 use mathlib.Core.Path.{_≡_, sym, _∙_}
-use mathlib.Core.Bool.{true}
+use mathlib.Core.Bool.{true, _&&_}
 use borrow.Author.Tests.{not-true, not-false, le-leb, lt-leb}
 use denote.Ref.{now}
 use Rattle.model.specs.Refusals.{sideOk, tableOk}
@@ -16,11 +16,8 @@ w-ok c = sym (c .before .side-ok .ensures) ∙ not-false _ (c .if1 .left)
 planes-ok : (c : tie.Else2) → let a = c .before .before .before .before .args in stripFits (a .w) (a .texture) (a .depths) (a .samples) (a .marks) (a .fronts) ≡ true
 planes-ok c = sym (c .before .strip-sized .ensures) ∙ not-false _ (c .if2 .left)
 
-left-ok : (c : tie.Else3) → tableOk (now (c .before .before .before .before .before .before .args .left)) ≡ true
-left-ok c = sym (c .before .table-ok .ensures) ∙ not-false _ (c .if3 .left)
-
-right-ok : (c : tie.Else4) → tableOk (now (c .before .before .before .before .before .before .before .before .args .right)) ≡ true
-right-ok c = sym (c .before .table-ok2 .ensures) ∙ not-false _ (c .if4 .left)
+tables-ok : (c : tie.Else3) → let a = c .before .before .before .before .before .before .args in (tableOk (now (a .left)) && tableOk (now (a .right))) ≡ true
+tables-ok c = sym (c .before .tables-ok .ensures) ∙ not-false _ (c .if3 .left)
 
 side-ok-requires : tie.Need-side-ok-requires
 side-ok-requires c κs = search needs
@@ -36,27 +33,20 @@ returns-2 : tie.Need-returns-2
 unfolding stripNumber
 returns-2 c = rw (w-ok (c .before .before), sym (c .before .strip-sized .ensures) ∙ not-true _ (c .if2 .taken))
 
-table-ok-requires : tie.Need-table-ok-requires
-table-ok-requires c κs = search needs
+tables-ok-requires : tie.Need-tables-ok-requires
+tables-ok-requires c κs = search needs
 
 returns-3 : tie.Need-returns-3
 unfolding stripNumber
-returns-3 c = rw (w-ok (c .before .before .before .before), planes-ok (c .before .before), sym (c .before .table-ok .ensures) ∙ not-true _ (c .if3 .taken))
-
-table-ok-requires-2 : tie.Need-table-ok-requires-2
-table-ok-requires-2 c κs = search needs
+returns-3 c = rw (w-ok (c .before .before .before .before), planes-ok (c .before .before), sym (c .before .tables-ok .ensures) ∙ not-true _ (c .if3 .taken))
 
 returns-4 : tie.Need-returns-4
 unfolding stripNumber
-returns-4 c = rw (w-ok (c .before .before .before .before .before .before), planes-ok (c .before .before .before .before), left-ok (c .before .before), sym (c .before .table-ok2 .ensures) ∙ not-true _ (c .if4 .taken))
+returns-4 c = rw (w-ok (c .before .before .before .before .before), planes-ok (c .before .before .before), tables-ok (c .before), lt-leb _ _ (c .if4 .taken))
 
 returns-5 : tie.Need-returns-5
 unfolding stripNumber
-returns-5 c = rw (w-ok (c .before .before .before .before .before .before .before), planes-ok (c .before .before .before .before .before), left-ok (c .before .before .before), right-ok (c .before), lt-leb _ _ (c .if5 .taken))
-
-returns-6 : tie.Need-returns-6
-unfolding stripNumber
-returns-6 c = rw (w-ok (c .before .before .before .before .before .before .before), planes-ok (c .before .before .before .before .before), left-ok (c .before .before .before), right-ok (c .before), le-leb _ _ (c .if5 .left))
+returns-5 c = rw (w-ok (c .before .before .before .before .before), planes-ok (c .before .before .before), tables-ok (c .before), le-leb _ _ (c .if4 .left))
 
 pub strip-refusal-spec : {M : Type 1} → statement M
 strip-refusal-spec =
@@ -66,9 +56,7 @@ strip-refusal-spec =
     returns
     strip-sized-requires
     returns-2
-    table-ok-requires
+    tables-ok-requires
     returns-3
-    table-ok-requires-2
     returns-4
-    returns-5
-    returns-6)
+    returns-5)

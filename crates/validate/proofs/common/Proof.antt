@@ -1,5 +1,5 @@
 use mathlib.Core.Path.{_≡_, sym, _∙_}
-use mathlib.Core.Bool.{true}
+use mathlib.Core.Bool.{true, _&&_}
 use borrow.Author.Tests.{not-true, not-false, le-leb, lt-leb}
 use Rattle.model.specs.Refusals.{sideOk, tableOk}
 use Rattle.validate.specs.Numbers.{planesFit, commonNumber}
@@ -18,11 +18,8 @@ h-ok c = sym (c .before .side-ok2 .ensures) ∙ not-false _ (c .if2 .left)
 planes-ok : (c : tie.Else3) → let a = c .before .before .before .before .before .before .args in planesFit (a .w) (a .h) (a .lengths) ≡ true
 planes-ok c = sym (c .before .planes-sized .ensures) ∙ not-false _ (c .if3 .left)
 
-left-ok : (c : tie.Else4) → tableOk (c .before .before .before .before .before .before .before .before .args .left .now) ≡ true
-left-ok c = sym (c .before .table-ok .ensures) ∙ not-false _ (c .if4 .left)
-
-right-ok : (c : tie.Else5) → tableOk (c .before .before .before .before .before .before .before .before .before .before .args .right .now) ≡ true
-right-ok c = sym (c .before .table-ok2 .ensures) ∙ not-false _ (c .if5 .left)
+tables-ok : (c : tie.Else4) → let a = c .before .before .before .before .before .before .before .before .args in (tableOk (a .left .now) && tableOk (a .right .now)) ≡ true
+tables-ok c = sym (c .before .tables-ok .ensures) ∙ not-false _ (c .if4 .left)
 
 side-ok-requires : tie.Need-side-ok-requires
 side-ok-requires c κs = search needs
@@ -45,8 +42,8 @@ returns-3 : tie.Need-returns-3
 unfolding commonNumber
 returns-3 c = rw (w-ok (c .before .before .before .before), h-ok (c .before .before), sym (c .before .planes-sized .ensures) ∙ not-true _ (c .if3 .taken))
 
-table-ok-requires : tie.Need-table-ok-requires
-table-ok-requires c κs = search needs
+tables-ok-requires : tie.Need-tables-ok-requires
+tables-ok-requires c κs = search needs
 
 returns-4 : tie.Need-returns-4
 unfolding commonNumber
@@ -55,34 +52,30 @@ returns-4 c =
       w-ok (c .before .before .before .before .before .before),
       h-ok (c .before .before .before .before),
       planes-ok (c .before .before),
-      sym (c .before .table-ok .ensures) ∙ not-true _ (c .if4 .taken),
+      sym (c .before .tables-ok .ensures) ∙ not-true _ (c .if4 .taken),
     )
-
-table-ok-requires-2 : tie.Need-table-ok-requires-2
-table-ok-requires-2 c κs = search needs
 
 returns-5 : tie.Need-returns-5
 unfolding commonNumber
 returns-5 c =
     rw (
-      w-ok (c .before .before .before .before .before .before .before .before),
-      h-ok (c .before .before .before .before .before .before),
-      planes-ok (c .before .before .before .before),
-      left-ok (c .before .before),
-      sym (c .before .table-ok2 .ensures) ∙ not-true _ (c .if5 .taken),
+      w-ok (c .before .before .before .before .before .before .before),
+      h-ok (c .before .before .before .before .before),
+      planes-ok (c .before .before .before),
+      tables-ok (c .before),
+      lt-leb _ _ (c .if5 .taken),
     )
 
 returns-6 : tie.Need-returns-6
 unfolding commonNumber
 returns-6 c =
-    rw
-    (w-ok (c .before .before .before .before .before .before .before .before .before), h-ok (c .before .before .before .before .before .before .before), planes-ok (c .before .before .before .before .before), left-ok (c .before .before .before), right-ok (c .before), lt-leb _ _ (c .if6 .taken))
-
-returns-7 : tie.Need-returns-7
-unfolding commonNumber
-returns-7 c =
-    rw
-    (w-ok (c .before .before .before .before .before .before .before .before .before), h-ok (c .before .before .before .before .before .before .before), planes-ok (c .before .before .before .before .before), left-ok (c .before .before .before), right-ok (c .before), le-leb _ _ (c .if6 .left))
+    rw (
+      w-ok (c .before .before .before .before .before .before .before),
+      h-ok (c .before .before .before .before .before),
+      planes-ok (c .before .before .before),
+      tables-ok (c .before),
+      le-leb _ _ (c .if5 .left),
+    )
 
 pub common-spec : {M : Type 1} → statement M
 common-spec =
@@ -94,9 +87,7 @@ common-spec =
     returns-2
     planes-sized-requires
     returns-3
-    table-ok-requires
+    tables-ok-requires
     returns-4
-    table-ok-requires-2
     returns-5
-    returns-6
-    returns-7)
+    returns-6)

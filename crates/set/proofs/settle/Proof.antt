@@ -1,0 +1,77 @@
+-- `set::settle` meets its contract, refused and accepted.
+use mathlib.Core.Path.{refl, sym, _∙_}
+use native.Mathlib.Omega.{arith}
+use Rattle.trial.proofs.Blocks.{block-small}
+use Rattle.set.proofs.Settling.{set-requires}
+use borrow.Author.Needs.{needs}
+use Rattle.set.proofs.settle.Statement.{statement}
+use Rattle.set.proofs.settle.Tie as tie
+
+most-total-requires : tie.Need-most-total-requires
+most-total-requires c κs = let fits = c .before .before .before .before .before .before .before .before .before .before .before .before .before .before .before .before .before .before .before .pre .1 .1 .1 in (fits .wide, fits .high)
+
+judge-requires : tie.Need-judge-requires
+judge-requires c κs =
+    let p = c .before .before .before .before .before .before .before .before .before .before .before .before .before .before .before .before .before .before .before .before .pre in
+    let small = block-small _ _ _ _ _ (c .before .trial-block .ensures) (p .1 .1 .1) (p .1 .0 .depths) (omega arith) in
+    (small .0, (small .1, c .most-total .ensures .1))
+
+returns : tie.Need-returns
+returns c =
+    let sums = c .before .before .before .before .trial-block in
+    record {
+      old = sums .result .old;
+      new = sums .result .new;
+      tried = sums .ensures;
+      judged = rw (c .before .before .before .most-total .ensures .0) at (c .before .before .judge .ensures);
+      kept-depths = λ _. refl;
+      kept-view = λ _. refl;
+      kept-combined = λ _. refl;
+      set = λ z. absurd (c .if1 .taken (c .before .number .ensures ∙ z));
+    }
+
+set-block-requires : tie.Need-set-block-requires
+set-block-requires c κs =
+    let p = c .before .before .before .before .before .before .before .before .before .before .before .before .before .before .before .before .before .before .before .before .before .before .before .before .before .before .before .before .before .pre in
+    let fits = p .1 .1 .1 in
+    ((p .0 .0, (p .0 .1, (fits .wide, fits .high))), (p .1 .1 .0, set-requires (p .1 .0) fits))
+
+returns-2 : tie.Need-returns-2
+returns-2 c =
+    let sums = c .before .before .before .before .before .before .before .before .before .before .before .before .before .before .before .before .before .before .before .before .before .before .trial-block in
+    let accepted = sym (c .before .before .before .before .before .before .before .before .before .before .before .before .before .before .before .before .before .before .before .number .ensures) ∙ c .before .before .before .before .before .before .before .before .before .before .before .before .before .before .before .before .before .before .if1 .left in
+    record {
+      old = sums .result .old;
+      new = sums .result .new;
+      tried = sums .ensures;
+      judged = rw (c .before .before .before .before .before .before .before .before .before .before .before .before .before .before .before .before .before .before .before .before .before .most-total .ensures .0) at (c .before .before .before .before .before .before .before .before .before .before .before .before .before .before .before .before .before .before .before .before .judge .ensures);
+      kept-depths = λ ne. absurd (ne accepted);
+      kept-view = λ ne. absurd (ne accepted);
+      kept-combined = λ ne. absurd (ne accepted);
+      set = λ _. c .before .before .before .before .before .before .before .before .before .before .before .set-block .ensures;
+    }
+
+pub settle-spec : {M : Type 1} → statement M
+settle-spec =
+    tie.close
+    (tie.spec
+    (λ c. search needs)
+    (λ c. search needs)
+    (λ c. search needs)
+    (λ c. search needs)
+    (λ c κs. search needs)
+    most-total-requires
+    judge-requires
+    (λ c κs. search needs)
+    (λ c. search needs)
+    (λ c. search needs)
+    (λ c. search needs)
+    returns
+    set-block-requires
+    (λ c. search needs)
+    (λ c. search needs)
+    (λ c. search needs)
+    (λ c. search needs)
+    (λ c. search needs)
+    (λ c. search needs)
+    returns-2)

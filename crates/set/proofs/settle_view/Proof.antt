@@ -1,0 +1,76 @@
+-- `set::settle_view` meets its contract, for either view.
+use mathlib.Core.Bool.{true, false}
+use borrow.Author.Tests.{eq-eqb, ne-eqb}
+use Rattle.model.specs.Planes.{pictures, depths}
+use Rattle.decide.specs.Decided.{settingsOf, heldOf}
+use Rattle.set.proofs.Settling.{own-requires, settled-by}
+use borrow.Author.Needs.{needs}
+use Rattle.set.proofs.settle_view.Statement.{statement}
+use Rattle.set.proofs.settle_view.Tie as tie
+
+settle-requires : tie.Need-settle-requires
+settle-requires c κs =
+    let start = c .before .before .before .before .before .before .before .before .before .before .before .before .before .before .before .before .before .before .before .before .before .before .before in
+    let a = start .args in
+    let s = settingsOf (a .w) (a .h) (a .leftTable .now) (a .rightTable .now) (a .share) (a .tolerance) (a .total) in
+    let p = pictures (a .left .now) (a .right .now) (a .reference .now) in
+    let d = depths (a .leftDepths .now) (a .rightDepths .now) in
+    let h = heldOf (a .leftSamples .now) (a .leftFronts .now) (a .leftLimits .now) (a .leftMarks .now) (a .rightSamples .now) (a .rightFronts .now) (a .rightLimits .now) (a .rightMarks .now) (a .combined .now) in
+    own-requires s p d h (a .view) (a .block) (a .candidate .now) true (start .pre)
+
+returns : tie.Need-returns
+returns c =
+    let start = c .before .before .before .before .before .before .before .before .before .before .before .before .before .before .before .before .before .before .before .before .before .before .before .before .before .before .before .before .before .before .before .before .before .before .before in
+    let a = start .args in
+    let s = settingsOf (a .w) (a .h) (a .leftTable .now) (a .rightTable .now) (a .share) (a .tolerance) (a .total) in
+    let p = pictures (a .left .now) (a .right .now) (a .reference .now) in
+    let d = depths (a .leftDepths .now) (a .rightDepths .now) in
+    let h = heldOf (a .leftSamples .now) (a .leftFronts .now) (a .leftLimits .now) (a .leftMarks .now) (a .rightSamples .now) (a .rightFronts .now) (a .rightLimits .now) (a .rightMarks .now) (a .combined .now) in
+    settled-by s p d h (a .view) (a .block) (a .candidate .now) true (eq-eqb (a .view) 1 (c .before .before .before .before .before .before .before .before .before .before .before .before .before .before .before .before .before .before .before .before .before .if1 .taken)) (start .pre) _ _ _ _ (c .before .before .before .before .before .before .before .before .before .before .before .settle .ensures)
+
+settle-requires-2 : tie.Need-settle-requires-2
+settle-requires-2 c κs =
+    let start = c .before .before .before .before .before .before .before .before .before .before .before .before .before .before .before .before .before .before .before .before .before .before .before in
+    let a = start .args in
+    let s = settingsOf (a .w) (a .h) (a .leftTable .now) (a .rightTable .now) (a .share) (a .tolerance) (a .total) in
+    let p = pictures (a .left .now) (a .right .now) (a .reference .now) in
+    let d = depths (a .leftDepths .now) (a .rightDepths .now) in
+    let h = heldOf (a .leftSamples .now) (a .leftFronts .now) (a .leftLimits .now) (a .leftMarks .now) (a .rightSamples .now) (a .rightFronts .now) (a .rightLimits .now) (a .rightMarks .now) (a .combined .now) in
+    own-requires s p d h (a .view) (a .block) (a .candidate .now) false (start .pre)
+
+returns-2 : tie.Need-returns-2
+returns-2 c =
+    let start = c .before .before .before .before .before .before .before .before .before .before .before .before .before .before .before .before .before .before .before .before .before .before .before .before .before .before .before .before .before .before .before .before .before .before .before in
+    let a = start .args in
+    let s = settingsOf (a .w) (a .h) (a .leftTable .now) (a .rightTable .now) (a .share) (a .tolerance) (a .total) in
+    let p = pictures (a .left .now) (a .right .now) (a .reference .now) in
+    let d = depths (a .leftDepths .now) (a .rightDepths .now) in
+    let h = heldOf (a .leftSamples .now) (a .leftFronts .now) (a .leftLimits .now) (a .leftMarks .now) (a .rightSamples .now) (a .rightFronts .now) (a .rightLimits .now) (a .rightMarks .now) (a .combined .now) in
+    settled-by s p d h (a .view) (a .block) (a .candidate .now) false (ne-eqb (a .view) 1 (c .before .before .before .before .before .before .before .before .before .before .before .before .before .before .before .before .before .before .before .before .before .if1 .left)) (start .pre) _ _ _ _ (c .before .before .before .before .before .before .before .before .before .before .before .settle2 .ensures)
+
+pub settle-view-spec : {M : Type 1} → statement M
+settle-view-spec =
+    tie.close
+    (tie.spec
+    settle-requires
+    (λ c. search needs)
+    (λ c. search needs)
+    (λ c. search needs)
+    (λ c. search needs)
+    (λ c. search needs)
+    (λ c. search needs)
+    (λ c. search needs)
+    (λ c. search needs)
+    (λ c. search needs)
+    returns
+    settle-requires-2
+    (λ c. search needs)
+    (λ c. search needs)
+    (λ c. search needs)
+    (λ c. search needs)
+    (λ c. search needs)
+    (λ c. search needs)
+    (λ c. search needs)
+    (λ c. search needs)
+    (λ c. search needs)
+    returns-2)

@@ -1,0 +1,44 @@
+-- What settling a candidate leaves: it is tried, judged, and written where it is accepted.
+use Prim.Native.Nat.{ℕ, _*_}
+use mathlib.Core.Path.{_≡_}
+use mathlib.Core.Bool.{Bool}
+use mathlib.Core.List.{List}
+use Rattle.model.specs.declared.Settings.{Settings}
+use Rattle.model.specs.declared.Block.{Block}
+use Rattle.model.specs.Planes.{Pictures, Depths, View, Held, area}
+use Rattle.model.specs.Fresh.{fresh}
+use Rattle.model.specs.Blocks.{written}
+use Rattle.model.specs.Refusals.{numberOf}
+use Rattle.model.specs.Promises.{Untouched}
+use Rattle.trial.specs.Trial.{around, own, BlockTrial}
+use Rattle.combine.specs.Combine.{BlockSet}
+use Rattle.decide.specs.declared.Decision.{Decision}
+use Rattle.decide.specs.Decided.{Tried, Judged}
+
+-- In the planes of one view: the two sums are a trial's, 8 is judged by them, and the block is set or nothing is changed. The other view's
+-- planes are s₂, f₂ and m₂.
+pub record OwnSettled (right : Bool) (t : List ℕ) (share tolerance total w h : ℕ) (b : Block) (texture candidate s₂ f₂ m₂ reference d d′ : List ℕ) (v v′ : View) (c c′ : List ℕ) (r : Decision) : Type 0 where
+  pub old : ℕ
+  pub new : ℕ
+  pub tried : BlockTrial w (around right share tolerance s₂ f₂ m₂ c reference) (own t texture d (v .limits)) b candidate (b .height) old new
+  pub judged : Judged total old new (65025 * (w * h)) r
+  pub kept-depths : (numberOf (r .refusal) ≡ 0 → ⊥) → d′ ≡ d
+  pub kept-view : (numberOf (r .refusal) ≡ 0 → ⊥) → v′ ≡ v
+  pub kept-combined : (numberOf (r .refusal) ≡ 0 → ⊥) → c′ ≡ c
+  pub set : numberOf (r .refusal) ≡ 0 → BlockSet right t share tolerance w h b texture candidate s₂ f₂ m₂ d d′ v v′ c c′
+
+-- The depths are written in the block, whatever the planes hold; where the planes held the fresh drawing, they hold that of the written depths.
+pub record Wrote (s : Settings) (p : Pictures) (d₀ d : Depths) (h₀ h : Held) (v : ℕ) (b : Block) (c : List ℕ) : Type 0 where
+  pub depths : d ≡ written s v b c d₀
+  pub untouched : Untouched s v b h₀ h
+  pub held : h₀ ≡ fresh s p d₀ → h ≡ fresh s p (written s v b c d₀)
+
+-- The same in the words of the model: the candidate is written, or nothing is changed.
+pub record Settled (s : Settings) (p : Pictures) (d₀ d : Depths) (h₀ h : Held) (v : ℕ) (b : Block) (c : List ℕ) (r : Decision) : Type 0 where
+  pub old : ℕ
+  pub new : ℕ
+  pub tried : Tried s p d₀ h₀ v b c old new
+  pub judged : Judged (s .total) old new (65025 * area s) r
+  pub kept-depths : (numberOf (r .refusal) ≡ 0 → ⊥) → d ≡ d₀
+  pub kept-held : (numberOf (r .refusal) ≡ 0 → ⊥) → h ≡ h₀
+  pub wrote : numberOf (r .refusal) ≡ 0 → Wrote s p d₀ d h₀ h v b c
