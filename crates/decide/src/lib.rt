@@ -1,4 +1,4 @@
-// What GET and SET decide: the first refusal that applies, or the change of the total.
+// What GET and SET decide: the first refusal that applies, or the change of the total. GET calls `decide`; SET picks the view first and calls `judge`.
 use model::Block;
 use model::Refusal;
 use trial::Sums;

@@ -514,7 +514,7 @@ fn trial_at(
 }
 
 // The two sums of a block's trial in one view: texture, depths and limits are the view's own, and samples, fronts and marks the other
-// view's.
+// view's. The slices are lent on as new ones: the compiler then passes pointers and lengths, and the caller stores no slice in memory.
 pub fn trial_block(
     right: bool,
     table: &[u16; 256],

@@ -7,33 +7,6 @@ use borrow.Author.Needs.{needs}
 use Rattle.checks.proofs.draw_front.Statement.{statement}
 use Rattle.checks.proofs.draw_front.Tie as tie
 
-mul-from : tie.Need-mul-from
-mul-from c = search needs
-
-add-to : tie.Need-add-to
-add-to c = search needs
-
-sub-draw-plane-row : tie.Need-sub-draw-plane-row
-sub-draw-plane-row c = search needs
-
-part-draw-plane-row-start : tie.Need-part-draw-plane-row-start
-part-draw-plane-row-start c = search needs
-
-part-draw-plane-row-end : tie.Need-part-draw-plane-row-end
-part-draw-plane-row-end c = search needs
-
-sub-draw-plane-row-2 : tie.Need-sub-draw-plane-row-2
-sub-draw-plane-row-2 c = search needs
-
-part-draw-plane-row-start-2 : tie.Need-part-draw-plane-row-start-2
-part-draw-plane-row-start-2 c = search needs
-
-part-draw-plane-row-end-2 : tie.Need-part-draw-plane-row-end-2
-part-draw-plane-row-end-2 c = search needs
-
-array-borrow-prefix-flags : tie.Need-array-borrow-prefix-flags
-array-borrow-prefix-flags c = search needs
-
 slice-aggregate-draw-plane-row : tie.Need-slice-aggregate-draw-plane-row
 slice-aggregate-draw-plane-row c = sym (length-take-le _ _ (omega arith))
 
@@ -61,15 +34,15 @@ pub draw-front-spec : {M : Type 1} → statement M
 draw-front-spec =
     tie.close
     (tie.spec
-    mul-from
-    add-to
-    sub-draw-plane-row
-    part-draw-plane-row-start
-    part-draw-plane-row-end
-    sub-draw-plane-row-2
-    part-draw-plane-row-start-2
-    part-draw-plane-row-end-2
-    array-borrow-prefix-flags
+    (λ c. search needs)
+    (λ c. search needs)
+    (λ c. search needs)
+    (λ c. search needs)
+    (λ c. search needs)
+    (λ c. search needs)
+    (λ c. search needs)
+    (λ c. search needs)
+    (λ c. search needs)
     slice-aggregate-draw-plane-row
     draw-plane-row-requires
     returns)

@@ -44,12 +44,6 @@ add-set-row c =
     let s = c .before .before .before .before .before .before .before .before .before .before .before .before in
     omega (arith, s .pre .1 .1 .1 .below, s .pre .0 .1 .1 .1, c .loop-test .taken)
 
-sub-set-row : tie.Need-sub-set-row Inv-loop μ-loop
-sub-set-row c = search needs
-
-part-set-row-start : tie.Need-part-set-row-start Inv-loop μ-loop
-part-set-row-start c = search needs
-
 part-set-row-end : tie.Need-part-set-row-end Inv-loop μ-loop
 part-set-row-end c = within c
 
@@ -114,8 +108,8 @@ set-block-spec =
     mul-from
     add-to
     add-set-row
-    sub-set-row
-    part-set-row-start
+    (λ c. search needs)
+    (λ c. search needs)
     part-set-row-end
     set-row-requires
     add-j

@@ -18,24 +18,6 @@ combine-row-requires c κs =
     let own = view-kept (cr .last .1 .1 .1 .1 .1 .1 .1 .1 .0) (cr .last .1 .1 .1 .1 .1 .1 .1 .1 .1 .0) (cr .last .1 .1 .1 .1 .1 .1 .1 .1 .1 .1 .1 .0) (s .pre .1 .0) (cr .kept .1 .1 .1 .1 .1 .1 .1 .1 .0) (cr .kept .1 .1 .1 .1 .1 .1 .1 .1 .1 .0) (cr .kept .1 .1 .1 .1 .1 .1 .1 .1 .1 .1 .1 .0) in
     ((s .pre .0 .1 .0, (s .pre .0 .1 .1, (cr .ensures .order, cr .ensures .within))), ((own, s .pre .1 .1 .0 .0), s .pre .1 .1 .0 .1))
 
-same-length : tie.Need-same-length
-same-length c = search needs
-
-same-length-2 : tie.Need-same-length-2
-same-length-2 c = search needs
-
-same-length-3 : tie.Need-same-length-3
-same-length-3 c = search needs
-
-same-length-4 : tie.Need-same-length-4
-same-length-4 c = search needs
-
-same-length-5 : tie.Need-same-length-5
-same-length-5 c = search needs
-
-same-length-6 : tie.Need-same-length-6
-same-length-6 c = search needs
-
 returns : tie.Need-returns
 returns c =
     let s = c .before .before .before .before .before .before .before .before .before .before .before .before .before .before .before .before .before .before .before .before .before .before .before .before .before .before .before .before .before .before .before .before in
@@ -51,10 +33,10 @@ set-row-spec =
     (tie.spec
     commit-row-requires
     combine-row-requires
-    same-length
-    same-length-2
-    same-length-3
-    same-length-4
-    same-length-5
-    same-length-6
+    (λ c. search needs)
+    (λ c. search needs)
+    (λ c. search needs)
+    (λ c. search needs)
+    (λ c. search needs)
+    (λ c. search needs)
     returns)

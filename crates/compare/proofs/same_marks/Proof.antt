@@ -9,24 +9,6 @@ use Rattle.planes.proofs.Splices.{part-row, part-length}
 use Rattle.compare.proofs.same_marks.Statement.{statement}
 use Rattle.compare.proofs.same_marks.Tie as tie
 
-add-bytes : tie.Need-add-bytes
-add-bytes c = search needs
-
-mul-start : tie.Need-mul-start
-mul-start c = search needs
-
-add-end : tie.Need-add-end
-add-end c = search needs
-
-sub-same-mark : tie.Need-sub-same-mark
-sub-same-mark c = search needs
-
-part-same-mark-start : tie.Need-part-same-mark-start
-part-same-mark-start c = search needs
-
-part-same-mark-end : tie.Need-part-same-mark-end
-part-same-mark-end c = search needs
-
 slice-aggregate-same-mark : tie.Need-slice-aggregate-same-mark
 slice-aggregate-same-mark c = sym (length-take-le _ _ (omega arith))
 
@@ -50,12 +32,12 @@ pub same-marks-spec : {M : Type 1} → statement M
 same-marks-spec =
     tie.close
     (tie.spec
-    add-bytes
-    mul-start
-    add-end
-    sub-same-mark
-    part-same-mark-start
-    part-same-mark-end
+    (λ c. search needs)
+    (λ c. search needs)
+    (λ c. search needs)
+    (λ c. search needs)
+    (λ c. search needs)
+    (λ c. search needs)
     slice-aggregate-same-mark
     same-mark-requires
     returns)

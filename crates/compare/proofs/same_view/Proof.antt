@@ -18,55 +18,19 @@ limits-are c =
     c .same-limit .ensures
     ∙ read-same w16 (getD (a .limits .now) (a .y * a .w + a .x) (pos 0)) (getD (a .freshLimits .now) (a .x) (pos 0)) (c .before .before .same-limit-arg .given) (c .before .same-limit-arg2 .given)
 
-mul-k : tie.Need-mul-k
-mul-k c = search needs
-
-add-k : tie.Need-add-k
-add-k c = search needs
-
-shared-slice-read-if1 : tie.Need-shared-slice-read-if1
-shared-slice-read-if1 c = search needs
-
-element-copy-out-if1 : tie.Need-element-copy-out-if1
-element-copy-out-if1 c = search needs
-
 returns : tie.Need-returns
 unfolding agrees
 returns c = rw (ne-eqb _ _ (c .if1 .taken))
 
-shared-slice-read-if2 : tie.Need-shared-slice-read-if2
-shared-slice-read-if2 c = search needs
-
-element-copy-out-if2 : tie.Need-element-copy-out-if2
-element-copy-out-if2 c = search needs
-
 returns-2 : tie.Need-returns-2
 unfolding agrees
 returns-2 c = rw (eq-eqb _ _ (c .before .before .before .if1 .left), ne-eqb _ _ (c .if2 .taken))
-
-mul-same-limit : tie.Need-mul-same-limit
-mul-same-limit c = search needs
-
-shared-slice-copy-out-same-limit : tie.Need-shared-slice-copy-out-same-limit
-shared-slice-copy-out-same-limit c = search needs
-
-mul-same-limit-2 : tie.Need-mul-same-limit-2
-mul-same-limit-2 c = search needs
-
-element-copy-out-same-limit : tie.Need-element-copy-out-same-limit
-element-copy-out-same-limit c = search needs
-
-same-limit-requires : tie.Need-same-limit-requires
-same-limit-requires c κs = search needs
 
 returns-3 : tie.Need-returns-3
 unfolding agrees
 returns-3 c =
     let t = c .before .before .before .before in
     rw (eq-eqb _ _ (t .before .before .before .if1 .left), eq-eqb _ _ (t .if2 .left), sym (limits-are (c .before)) ∙ not-true _ (c .if3 .taken))
-
-same-marks-requires : tie.Need-same-marks-requires
-same-marks-requires c κs = search needs
 
 returns-4 : tie.Need-returns-4
 unfolding agrees
@@ -79,19 +43,19 @@ pub same-view-spec : {M : Type 1} → statement M
 same-view-spec =
     tie.close
     (tie.spec
-    mul-k
-    add-k
-    shared-slice-read-if1
-    element-copy-out-if1
+    (λ c. search needs)
+    (λ c. search needs)
+    (λ c. search needs)
+    (λ c. search needs)
     returns
-    shared-slice-read-if2
-    element-copy-out-if2
+    (λ c. search needs)
+    (λ c. search needs)
     returns-2
-    mul-same-limit
-    shared-slice-copy-out-same-limit
-    mul-same-limit-2
-    element-copy-out-same-limit
-    same-limit-requires
+    (λ c. search needs)
+    (λ c. search needs)
+    (λ c. search needs)
+    (λ c. search needs)
+    (λ c κs. search needs)
     returns-3
-    same-marks-requires
+    (λ c κs. search needs)
     returns-4)

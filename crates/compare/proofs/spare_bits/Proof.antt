@@ -7,18 +7,6 @@ use borrow.Author.Needs.{needs}
 use Rattle.compare.proofs.spare_bits.Statement.{statement}
 use Rattle.compare.proofs.spare_bits.Tie as tie
 
-shared-slice-read-result : tie.Need-shared-slice-read-result
-shared-slice-read-result c = search needs
-
-cast-result : tie.Need-cast-result
-cast-result c = search needs
-
-shr-result : tie.Need-shr-result
-shr-result c = search needs
-
-returns : tie.Need-returns
-returns c = search needs
-
 returns-2 : tie.Need-returns-2
 returns-2 c =
     let a = c .before .args in
@@ -26,4 +14,4 @@ returns-2 c =
 
 pub spare-bits-spec : {M : Type 1} → statement M
 spare-bits-spec =
-    tie.close (tie.spec shared-slice-read-result cast-result shr-result returns returns-2)
+    tie.close (tie.spec (λ c. search needs) (λ c. search needs) (λ c. search needs) (λ c. search needs) returns-2)

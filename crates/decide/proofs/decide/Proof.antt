@@ -50,15 +50,6 @@ byte-pictures c =
       reference = bytes _ (c .before .before .before .before .before .before .before .before .before .before .before .shared-slice-known3 .given);
     }
 
-early-requires : tie.Need-early-requires
-early-requires c κs = search needs
-
-number-requires : tie.Need-number-requires
-number-requires c κs = search needs
-
-refused-requires : tie.Need-refused-requires
-refused-requires c κs = search needs
-
 returns : tie.Need-returns
 returns c =
     let r = c .refused .ensures in
@@ -74,9 +65,6 @@ most-total-requires c κs =
     let f = passed (settings a 0) (shown a) (lent a) (kept a) (a .args .view) (a .args .block) (a .args .candidate .now) (none (c .before) 0) in
     (f .common .size .w .most, f .common .size .h .most)
 
-judge-requires : tie.Need-judge-requires
-judge-requires c κs = search needs
-
 returns-2 : tie.Need-returns-2
 returns-2 c =
     let e = c .before .before .before in
@@ -90,11 +78,11 @@ pub decide-spec : {M : Type 1} → statement M
 decide-spec =
     tie.close
     (tie.spec
-    early-requires
-    number-requires
-    refused-requires
+    (λ c κs. search needs)
+    (λ c κs. search needs)
+    (λ c κs. search needs)
     returns
     try-candidate-requires
     most-total-requires
-    judge-requires
+    (λ c κs. search needs)
     returns-2)

@@ -10,19 +10,10 @@ use borrow.Author.Needs.{needs}
 use Rattle.decide.proofs.judge.Statement.{statement}
 use Rattle.decide.proofs.judge.Tie as tie
 
-in-range-requires : tie.Need-in-range-requires
-in-range-requires c κs = search needs
-
-refused-requires : tie.Need-refused-requires
-refused-requires c κs = search needs
-
 returns : tie.Need-returns
 returns c =
     let r = c .refused .ensures in
     judged-out _ _ _ _ _ (sym (c .before .before .in-range .ensures) ∙ not-true _ (c .before .if1 .taken)) (ap numberOf (r .0)) (r .1 .0) (r .1 .1)
-
-difference-requires : tie.Need-difference-requires
-difference-requires c κs = search needs
 
 moved-total-requires : tie.Need-moved-total-requires
 moved-total-requires c κs =
@@ -37,9 +28,9 @@ pub judge-spec : {M : Type 1} → statement M
 judge-spec =
     tie.close
     (tie.spec
-    in-range-requires
-    refused-requires
+    (λ c κs. search needs)
+    (λ c κs. search needs)
     returns
-    difference-requires
+    (λ c κs. search needs)
     moved-total-requires
     returns-2)

@@ -5,18 +5,6 @@ use borrow.Author.Needs.{needs}
 use Rattle.decide.proofs.try_candidate.Statement.{statement}
 use Rattle.decide.proofs.try_candidate.Tie as tie
 
-cast-column : tie.Need-cast-column
-cast-column c = search needs
-
-cast-row : tie.Need-cast-row
-cast-row c = search needs
-
-cast-width : tie.Need-cast-width
-cast-width c = search needs
-
-cast-height : tie.Need-cast-height
-cast-height c = search needs
-
 trial-block-requires : tie.Need-trial-block-requires
 trial-block-requires c κs =
     let start = c .before .before .before .before .before .before .before .before .before .before .before .before .before .before .before .before .before .before in
@@ -43,10 +31,10 @@ pub try-candidate-spec : {M : Type 1} → statement M
 try-candidate-spec =
     tie.close
     (tie.spec
-    cast-column
-    cast-row
-    cast-width
-    cast-height
+    (λ c. search needs)
+    (λ c. search needs)
+    (λ c. search needs)
+    (λ c. search needs)
     trial-block-requires
     returns
     trial-block-requires-2

@@ -40,9 +40,6 @@ error-row-requires c κs =
     let k = rows-apart (a .w) (l .y) (a .h) (omega arith) in
     ((h .0 .0, h .0 .1 .1 .0), (omega (arith, c .before .before .before .blend-row .kept .1 .1 .1 .1 .1 .1 .1 .1 .1 .1 .0, h .1 .1 .1, l .inv .1 .0, mul-comm (a .w) (a .h)), omega (arith, h .1 .1 .0, mul-comm (a .w) (a .h))))
 
-wide-requires : tie.Need-wide-requires Inv-loop μ-loop
-wide-requires c κs = search needs
-
 add-total : tie.Need-add-total Inv-loop μ-loop
 add-total c =
     let start = c .before .before .before .before .before .before .before .before .before .before .before .before .before .before .before .before .before in
@@ -80,7 +77,7 @@ combine-picture-spec =
     loop-holds
     blend-row-requires
     error-row-requires
-    wide-requires
+    (λ c κs. search needs)
     add-total
     add-y
     loop-less

@@ -11,60 +11,6 @@ use borrow.Author.Needs.{needs}
 use Rattle.draw.proofs.draw_plane_row.Statement.{statement}
 use Rattle.draw.proofs.draw_plane_row.Tie as tie
 
-mul-from : tie.Need-mul-from
-mul-from c = search needs
-
-add-to : tie.Need-add-to
-add-to c = search needs
-
-sub-draw-row : tie.Need-sub-draw-row
-sub-draw-row c = search needs
-
-part-draw-row-start : tie.Need-part-draw-row-start
-part-draw-row-start c = search needs
-
-part-draw-row-end : tie.Need-part-draw-row-end
-part-draw-row-end c = search needs
-
-sub-draw-row-2 : tie.Need-sub-draw-row-2
-sub-draw-row-2 c = search needs
-
-part-draw-row-start-2 : tie.Need-part-draw-row-start-2
-part-draw-row-start-2 c = search needs
-
-part-draw-row-end-2 : tie.Need-part-draw-row-end-2
-part-draw-row-end-2 c = search needs
-
-sub-draw-row-3 : tie.Need-sub-draw-row-3
-sub-draw-row-3 c = search needs
-
-part-draw-row-start-3 : tie.Need-part-draw-row-start-3
-part-draw-row-start-3 c = search needs
-
-part-draw-row-end-3 : tie.Need-part-draw-row-end-3
-part-draw-row-end-3 c = search needs
-
-sub-draw-row-4 : tie.Need-sub-draw-row-4
-sub-draw-row-4 c = search needs
-
-part-draw-row-start-4 : tie.Need-part-draw-row-start-4
-part-draw-row-start-4 c = search needs
-
-part-draw-row-end-4 : tie.Need-part-draw-row-end-4
-part-draw-row-end-4 c = search needs
-
-mul-draw-row : tie.Need-mul-draw-row
-mul-draw-row c = search needs
-
-sub-draw-row-5 : tie.Need-sub-draw-row-5
-sub-draw-row-5 c = search needs
-
-part-draw-row-start-5 : tie.Need-part-draw-row-start-5
-part-draw-row-start-5 c = search needs
-
-part-draw-row-end-5 : tie.Need-part-draw-row-end-5
-part-draw-row-end-5 c = search needs
-
 draw-row-requires : tie.Need-draw-row-requires
 draw-row-requires c κs =
     let start = c .before .before .before .before .before .before .before .before .before .before .before .before in
@@ -97,15 +43,6 @@ add-last c =
     let start = c .before .before .before .before .before .before .before .before .before .before .before .before .before .before .before .before .before .before .before .before in
     omega (arith, start .pre .0 .1 .1, start .pre .1 .0 .marks-in)
 
-sub-pack : tie.Need-sub-pack
-sub-pack c = search needs
-
-part-pack-start : tie.Need-part-pack-start
-part-pack-start c = search needs
-
-part-pack-end : tie.Need-part-pack-end
-part-pack-end c = search needs
-
 pack-requires : tie.Need-pack-requires
 pack-requires c κs =
     let start = c .before .before .before .before .before .before .before .before .before .before .before .before .before .before .before .before .before .before .before .before .before .before in
@@ -116,21 +53,6 @@ pack-requires c κs =
       (rw l (part-length (a .marks .now) _ _ (h .1 .0 .marks-in)), rw l (h .0 .1 .1)),
       subst (λ (ms : List ℕ). Flags ms) (sym (d .ensures .shows .marks-are)) (flags-view (a .right) _),
     )
-
-same-length : tie.Need-same-length
-same-length c = search needs
-
-same-length-2 : tie.Need-same-length-2
-same-length-2 c = search needs
-
-same-length-3 : tie.Need-same-length-3
-same-length-3 c = search needs
-
-same-length-4 : tie.Need-same-length-4
-same-length-4 c = search needs
-
-same-length-5 : tie.Need-same-length-5
-same-length-5 c = search needs
 
 returns : tie.Need-returns
 returns c =
@@ -152,35 +74,35 @@ pub draw-plane-row-spec : {M : Type 1} → statement M
 draw-plane-row-spec =
     tie.close
     (tie.spec
-    mul-from
-    add-to
-    sub-draw-row
-    part-draw-row-start
-    part-draw-row-end
-    sub-draw-row-2
-    part-draw-row-start-2
-    part-draw-row-end-2
-    sub-draw-row-3
-    part-draw-row-start-3
-    part-draw-row-end-3
-    sub-draw-row-4
-    part-draw-row-start-4
-    part-draw-row-end-4
-    mul-draw-row
-    sub-draw-row-5
-    part-draw-row-start-5
-    part-draw-row-end-5
+    (λ c. search needs)
+    (λ c. search needs)
+    (λ c. search needs)
+    (λ c. search needs)
+    (λ c. search needs)
+    (λ c. search needs)
+    (λ c. search needs)
+    (λ c. search needs)
+    (λ c. search needs)
+    (λ c. search needs)
+    (λ c. search needs)
+    (λ c. search needs)
+    (λ c. search needs)
+    (λ c. search needs)
+    (λ c. search needs)
+    (λ c. search needs)
+    (λ c. search needs)
+    (λ c. search needs)
     draw-row-requires
     add-bytes
     mul-first
     add-last
-    sub-pack
-    part-pack-start
-    part-pack-end
+    (λ c. search needs)
+    (λ c. search needs)
+    (λ c. search needs)
     pack-requires
-    same-length
-    same-length-2
-    same-length-3
-    same-length-4
-    same-length-5
+    (λ c. search needs)
+    (λ c. search needs)
+    (λ c. search needs)
+    (λ c. search needs)
+    (λ c. search needs)
     returns)

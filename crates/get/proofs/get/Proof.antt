@@ -5,13 +5,10 @@ use borrow.Author.Needs.{needs}
 use Rattle.get.proofs.get.Statement.{statement}
 use Rattle.get.proofs.get.Tie as tie
 
-decide-requires : tie.Need-decide-requires
-decide-requires c κs = search needs
-
 returns : tie.Need-returns
 returns c =
     let fits : SFits w64 (c .before .decide .result .change) = search needs in
     rw (toZ-ofZ fits) (c .before .decide .ensures .answer)
 
 pub get-spec : {M : Type 1} → statement M
-get-spec = tie.close (tie.spec decide-requires returns)
+get-spec = tie.close (tie.spec (λ c κs. search needs) returns)

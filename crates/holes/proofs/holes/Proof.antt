@@ -11,20 +11,8 @@ use Rattle.holes.proofs.holes.Tie as tie
 accepted : (c : tie.Else1) → let a = c .before .before .before .before .before .args in holesNumber (sides (a .settings .w) (a .settings .h)) (a .view) (a .left .now) (a .right .now) ≡ 0
 accepted c = sym (c .before .before .refusal .ensures) ∙ sym (c .before .number .ensures) ∙ c .if1 .left
 
-refusal-requires : tie.Need-refusal-requires
-refusal-requires c κs = search needs
-
-number-requires : tie.Need-number-requires
-number-requires c κs = search needs
-
 returns : tie.Need-returns
 returns c = refused _ _ _ _ _ (c .before .before .refusal .ensures) (λ z. c .if1 .taken (c .before .number .ensures ∙ z))
-
-cast-w : tie.Need-cast-w
-cast-w c = search needs
-
-cast-h : tie.Need-cast-h
-cast-h c = search needs
 
 holes-requires : tie.Need-holes-requires
 holes-requires c κs = let f = lent _ _ _ _ _ (accepted (c .before .before .before)) in (f .columns, (f .rows, f .right-marks))
@@ -42,11 +30,11 @@ pub holes-spec : {M : Type 1} → statement M
 holes-spec =
     tie.close
     (tie.spec
-    refusal-requires
-    number-requires
+    (λ c κs. search needs)
+    (λ c κs. search needs)
     returns
-    cast-w
-    cast-h
+    (λ c. search needs)
+    (λ c. search needs)
     holes-requires
     returns-2
     holes-requires-2

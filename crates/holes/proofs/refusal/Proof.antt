@@ -25,22 +25,13 @@ h-ok c = sym (c .before .side-ok2 .ensures) ∙ not-false _ (c .if2 .left)
 abbrev right-sized : (c : tie.Else2) → Bool
 right-sized c = let a = c .before .before .before .before .before .before .args in eqb (length (a .right .now)) (markBytes (a .w) * a .h)
 
-side-ok-requires : tie.Need-side-ok-requires
-side-ok-requires c κs = search needs
-
 returns : tie.Need-returns
 unfolding holesNumber sizeOk
 returns c = rw (sym (c .before .side-ok .ensures) ∙ not-true _ (c .if1 .taken))
 
-side-ok-requires-2 : tie.Need-side-ok-requires-2
-side-ok-requires-2 c κs = search needs
-
 returns-2 : tie.Need-returns-2
 unfolding holesNumber sizeOk
 returns-2 c = rw (w-ok (c .before .before), sym (c .before .side-ok2 .ensures) ∙ not-true _ (c .if2 .taken))
-
-add-bytes : tie.Need-add-bytes
-add-bytes c = search needs
 
 mul-bytes : tie.Need-mul-bytes
 mul-bytes c =
@@ -69,11 +60,11 @@ pub refusal-spec : {M : Type 1} → statement M
 refusal-spec =
     tie.close
     (tie.spec
-    side-ok-requires
+    (λ c κs. search needs)
     returns
-    side-ok-requires-2
+    (λ c κs. search needs)
     returns-2
-    add-bytes
+    (λ c. search needs)
     mul-bytes
     returns-3
     returns-4

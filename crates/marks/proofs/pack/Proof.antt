@@ -8,15 +8,6 @@ use Rattle.marks.proofs.Puts.{put-cleared}
 use Rattle.marks.proofs.pack.Statement.{statement}
 use Rattle.marks.proofs.pack.Tie as tie
 
-clear-requires : tie.Need-clear-requires
-clear-requires c κs = search needs
-
-put-marks-requires : tie.Need-put-marks-requires
-put-marks-requires c κs = search needs
-
-same-length : tie.Need-same-length
-same-length c = search needs
-
 returns : tie.Need-returns
 returns c =
     let cleared = c .before .before .before .before .before .before in
@@ -27,4 +18,4 @@ returns c =
     (put-cleared (markBytes (length flags)) flags (s .pre .1) (omega arith))
 
 pub pack-spec : {M : Type 1} → statement M
-pack-spec = tie.close (tie.spec clear-requires put-marks-requires same-length returns)
+pack-spec = tie.close (tie.spec (λ c κs. search needs) (λ c κs. search needs) (λ c. search needs) returns)

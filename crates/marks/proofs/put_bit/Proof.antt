@@ -8,12 +8,6 @@ use Rattle.marks.proofs.Bits.{one-shl, clear-le, putBit-lt}
 use Rattle.marks.proofs.put_bit.Statement.{statement}
 use Rattle.marks.proofs.put_bit.Tie as tie
 
-cast-bit : tie.Need-cast-bit
-cast-bit c = search needs
-
-shl-bit : tie.Need-shl-bit
-shl-bit c = search needs
-
 div-result : tie.Need-div-result
 div-result c = rw (one-shl (c .args .k) (c .pre .0)) (pow-pos (c .args .k))
 
@@ -42,4 +36,4 @@ returns c = rw (one-shl (c .args .k) (c .pre .0))
 pub put-bit-spec : {M : Type 1} → statement M
 put-bit-spec =
     tie.close
-    (tie.spec cast-bit shl-bit div-result mul-result sub-result mul-result-2 add-result returns)
+    (tie.spec (λ c. search needs) (λ c. search needs) div-result mul-result sub-result mul-result-2 add-result returns)

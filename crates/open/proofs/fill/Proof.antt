@@ -4,16 +4,10 @@ use borrow.Author.Needs.{needs}
 use Rattle.open.proofs.fill.Statement.{statement}
 use Rattle.open.proofs.fill.Tie as tie
 
-draw-view-requires : tie.Need-draw-view-requires
-draw-view-requires c κs = search needs
-
 draw-view-requires-2 : tie.Need-draw-view-requires-2
 draw-view-requires-2 c κs =
     let h = c .before .before .before .before .before .before .before .before .before .before .before .before .before .before .before .before .before .before .before .before .before .before .before .before .before .before .before .before .pre in
     ((h .0 .1 .0, (h .1 .0 .0, h .1 .0 .1 .0)), h .1 .1 .1 .0)
-
-squares-requires : tie.Need-squares-requires
-squares-requires c κs = search needs
 
 combine-picture-requires : tie.Need-combine-picture-requires
 combine-picture-requires c κs =
@@ -33,30 +27,6 @@ combine-picture-requires c κs =
 same-length : tie.Need-same-length
 same-length c = c .before .before .before .before .before .before .before .before .before .before .before .before .before .before .before .before .before .before .before .before .before .before .before .before .before .before .before .before .before .before .before .draw-view .kept .1 .1 .1 .1 .1 .1 .0
 
-same-length-2 : tie.Need-same-length-2
-same-length-2 c = search needs
-
-same-length-3 : tie.Need-same-length-3
-same-length-3 c = search needs
-
-same-length-4 : tie.Need-same-length-4
-same-length-4 c = search needs
-
-same-length-5 : tie.Need-same-length-5
-same-length-5 c = search needs
-
-same-length-6 : tie.Need-same-length-6
-same-length-6 c = search needs
-
-same-length-7 : tie.Need-same-length-7
-same-length-7 c = search needs
-
-same-length-8 : tie.Need-same-length-8
-same-length-8 c = search needs
-
-same-length-9 : tie.Need-same-length-9
-same-length-9 c = search needs
-
 returns : tie.Need-returns
 returns c = record { left = c .before .before .before .before .before .before .before .before .before .before .before .before .before .before .before .before .before .before .before .before .before .before .before .before .before .before .before .before .before .before .before .draw-view .ensures; right = c .before .before .before .before .before .before .before .before .before .before .before .before .before .before .before .before .before .before .before .draw-view2 .ensures; picture = c .before .before .combine-picture .ensures }
 
@@ -64,17 +34,17 @@ pub fill-spec : {M : Type 1} → statement M
 fill-spec =
     tie.close
     (tie.spec
-    draw-view-requires
+    (λ c κs. search needs)
     draw-view-requires-2
-    squares-requires
+    (λ c κs. search needs)
     combine-picture-requires
     same-length
-    same-length-2
-    same-length-3
-    same-length-4
-    same-length-5
-    same-length-6
-    same-length-7
-    same-length-8
-    same-length-9
+    (λ c. search needs)
+    (λ c. search needs)
+    (λ c. search needs)
+    (λ c. search needs)
+    (λ c. search needs)
+    (λ c. search needs)
+    (λ c. search needs)
+    (λ c. search needs)
     returns)

@@ -9,12 +9,6 @@ use borrow.Author.Needs.{needs}
 use Rattle.open.proofs.open.Statement.{statement}
 use Rattle.open.proofs.open.Tie as tie
 
-common-requires : tie.Need-common-requires
-common-requires c κs = search needs
-
-number-requires : tie.Need-number-requires
-number-requires c κs = search needs
-
 returns : tie.Need-returns
 returns c =
     let a = c .before .before .before .before .before .before .before .before .before .before .before .before .before .before .before .before .before .before .before .args in
@@ -22,12 +16,6 @@ returns c =
     let d = depths (a .leftDepths .now) (a .rightDepths .now) in
     let g = held (view (a .leftSamples .now) (a .leftFronts .now) (a .leftLimits .now) (a .leftMarks .now)) (view (a .rightSamples .now) (a .rightFronts .now) (a .rightLimits .now) (a .rightMarks .now)) (a .combined .now) in
     refused (a .settings) p d g _ (c .before .before .common .ensures ∙ common-number (a .settings) p d g 0) (λ q. c .if1 .taken (c .before .number .ensures ∙ q))
-
-cast-fill : tie.Need-cast-fill
-cast-fill c = search needs
-
-cast-fill-2 : tie.Need-cast-fill-2
-cast-fill-2 c = search needs
 
 fill-requires : tie.Need-fill-requires
 fill-requires c κs =
@@ -40,33 +28,6 @@ fill-requires c κs =
       (table-yes _ (f .tables .left), (table-yes _ (f .tables .right), f .share)),
       ((f .size .w .some, (f .size .w .most, f .size .h .most)), (planes-left (a .settings) p d g f, (planes-right (a .settings) p d g f, (f .pictures .reference, f .held .combined)))),
     )
-
-same-length : tie.Need-same-length
-same-length c = search needs
-
-same-length-2 : tie.Need-same-length-2
-same-length-2 c = search needs
-
-same-length-3 : tie.Need-same-length-3
-same-length-3 c = search needs
-
-same-length-4 : tie.Need-same-length-4
-same-length-4 c = search needs
-
-same-length-5 : tie.Need-same-length-5
-same-length-5 c = search needs
-
-same-length-6 : tie.Need-same-length-6
-same-length-6 c = search needs
-
-same-length-7 : tie.Need-same-length-7
-same-length-7 c = search needs
-
-same-length-8 : tie.Need-same-length-8
-same-length-8 c = search needs
-
-same-length-9 : tie.Need-same-length-9
-same-length-9 c = search needs
 
 returns-2 : tie.Need-returns-2
 returns-2 c =
@@ -83,19 +44,19 @@ pub open-spec : {M : Type 1} → statement M
 open-spec =
     tie.close
     (tie.spec
-    common-requires
-    number-requires
+    (λ c κs. search needs)
+    (λ c κs. search needs)
     returns
-    cast-fill
-    cast-fill-2
+    (λ c. search needs)
+    (λ c. search needs)
     fill-requires
-    same-length
-    same-length-2
-    same-length-3
-    same-length-4
-    same-length-5
-    same-length-6
-    same-length-7
-    same-length-8
-    same-length-9
+    (λ c. search needs)
+    (λ c. search needs)
+    (λ c. search needs)
+    (λ c. search needs)
+    (λ c. search needs)
+    (λ c. search needs)
+    (λ c. search needs)
+    (λ c. search needs)
+    (λ c. search needs)
     returns-2)

@@ -10,9 +10,6 @@ use borrow.Author.Needs.{needs}
 use Rattle.render.proofs.draw_packed.Statement.{statement}
 use Rattle.render.proofs.draw_packed.Tie as tie
 
-slice-relend-prefix-draw-view-row : tie.Need-slice-relend-prefix-draw-view-row
-slice-relend-prefix-draw-view-row c = search needs
-
 slice-aggregate-draw-view-row : tie.Need-slice-aggregate-draw-view-row
 slice-aggregate-draw-view-row c =
     let s = c .before .before .before .before .before .before .before .before .before in sym (length-take-le (length (now (s .args .depths))) (now (s .args .flags)) (s .pre .1 .1))
@@ -22,9 +19,6 @@ draw-view-row-requires c κs =
     let s = c .before .before .before .before .before .before .before .before .before in
     let p = s .pre in
     (p .0, (p .1 .0 .0, (p .1 .0 .1 .1, length-take-le (length (now (s .args .depths))) (now (s .args .flags)) (p .1 .1))))
-
-slice-reshare-prefix-pack : tie.Need-slice-reshare-prefix-pack
-slice-reshare-prefix-pack c = search needs
 
 slice-aggregate-pack : tie.Need-slice-aggregate-pack
 slice-aggregate-pack c =
@@ -46,18 +40,6 @@ pack-requires c κs =
       part-flags (a .right) (line (now (a .table)) (now (a .texture)) (now (a .depths))) fs _ w n (d .ensures),
     )
 
-same-length : tie.Need-same-length
-same-length c = search needs
-
-same-length-2 : tie.Need-same-length-2
-same-length-2 c = search needs
-
-same-length-3 : tie.Need-same-length-3
-same-length-3 c = search needs
-
-same-length-4 : tie.Need-same-length-4
-same-length-4 c = search needs
-
 returns : tie.Need-returns
 returns c =
     let s = c .before .before .before .before .before .before .before .before .before .before .before .before .before .before .before .before .before .before .before .before .before in
@@ -71,14 +53,14 @@ pub draw-packed-spec : {M : Type 1} → statement M
 draw-packed-spec =
     tie.close
     (tie.spec
-    slice-relend-prefix-draw-view-row
+    (λ c. search needs)
     slice-aggregate-draw-view-row
     draw-view-row-requires
-    slice-reshare-prefix-pack
+    (λ c. search needs)
     slice-aggregate-pack
     pack-requires
-    same-length
-    same-length-2
-    same-length-3
-    same-length-4
+    (λ c. search needs)
+    (λ c. search needs)
+    (λ c. search needs)
+    (λ c. search needs)
     returns)

@@ -7,12 +7,6 @@ use borrow.Author.Needs.{needs}
 use Rattle.render.proofs.render.Statement.{statement}
 use Rattle.render.proofs.render.Tie as tie
 
-strip-refusal-requires : tie.Need-strip-refusal-requires
-strip-refusal-requires c κs = search needs
-
-number-requires : tie.Need-number-requires
-number-requires c κs = search needs
-
 returns : tie.Need-returns
 returns c =
     let a = c .before .before .before .before .before .before .before .before .before .before .before .before .args in
@@ -39,15 +33,6 @@ draw-strip-requires-2 c κs =
     let ok = accepted-at s (a .view) t d x (c .before .before .before .before .before .before .before .strip-refusal .result) (c .before .before .before .before .before .before .before .strip-refusal .ensures) (c .before .before .before .before .before .before .number .ensures) (c .before .before .before .before .before .if1 .left) in
     (ready-strip s (a .view) t d x ok (s .left) (ok .left-table), (samples-fit s (a .view) t d x ok, (marks-fit s (a .view) t d x ok, fronts-fit s (a .view) t d x ok)))
 
-same-length : tie.Need-same-length
-same-length c = search needs
-
-same-length-2 : tie.Need-same-length-2
-same-length-2 c = search needs
-
-same-length-3 : tie.Need-same-length-3
-same-length-3 c = search needs
-
 returns-2 : tie.Need-returns-2
 returns-2 c =
     let a = c .before .before .before .before .before .before .before .before .before .before .before .before .before .before .before .before .before .before .before .before .before .before .before .before .args in
@@ -60,15 +45,6 @@ returns-2 c =
     let z = c .before .before .before .before .before .before .before .before .before .before .before .before .if1 .left in
     let ok = accepted-at s (a .view) t d x (r .result) (r .ensures) n z in
     drawn s (a .view) t d x ok true _ (r .result) (r .ensures) n z (eq-eqb (a .view) 1 (c .before .before .before .before .before .before .before .before .before .before .before .if2 .taken)) (c .before .before .before .before .before .before .draw-strip .ensures)
-
-same-length-4 : tie.Need-same-length-4
-same-length-4 c = search needs
-
-same-length-5 : tie.Need-same-length-5
-same-length-5 c = search needs
-
-same-length-6 : tie.Need-same-length-6
-same-length-6 c = search needs
 
 returns-3 : tie.Need-returns-3
 returns-3 c =
@@ -87,16 +63,16 @@ pub render-spec : {M : Type 1} → statement M
 render-spec =
     tie.close
     (tie.spec
-    strip-refusal-requires
-    number-requires
+    (λ c κs. search needs)
+    (λ c κs. search needs)
     returns
     draw-strip-requires
     draw-strip-requires-2
-    same-length
-    same-length-2
-    same-length-3
+    (λ c. search needs)
+    (λ c. search needs)
+    (λ c. search needs)
     returns-2
-    same-length-4
-    same-length-5
-    same-length-6
+    (λ c. search needs)
+    (λ c. search needs)
+    (λ c. search needs)
     returns-3)

@@ -19,9 +19,6 @@ planes-ok c = sym (c .before .strip-sized .ensures) ∙ not-false _ (c .if2 .lef
 tables-ok : (c : tie.Else3) → let a = c .before .before .before .before .before .before .args in (tableOk (now (a .left)) && tableOk (now (a .right))) ≡ true
 tables-ok c = sym (c .before .tables-ok .ensures) ∙ not-false _ (c .if3 .left)
 
-side-ok-requires : tie.Need-side-ok-requires
-side-ok-requires c κs = search needs
-
 returns : tie.Need-returns
 unfolding stripNumber
 returns c = rw (sym (c .before .side-ok .ensures) ∙ not-true _ (c .if1 .taken))
@@ -32,9 +29,6 @@ strip-sized-requires c κs = side-facts _ (w-ok c) .most
 returns-2 : tie.Need-returns-2
 unfolding stripNumber
 returns-2 c = rw (w-ok (c .before .before), sym (c .before .strip-sized .ensures) ∙ not-true _ (c .if2 .taken))
-
-tables-ok-requires : tie.Need-tables-ok-requires
-tables-ok-requires c κs = search needs
 
 returns-3 : tie.Need-returns-3
 unfolding stripNumber
@@ -52,11 +46,11 @@ pub strip-refusal-spec : {M : Type 1} → statement M
 strip-refusal-spec =
     tie.close
     (tie.spec
-    side-ok-requires
+    (λ c κs. search needs)
     returns
     strip-sized-requires
     returns-2
-    tables-ok-requires
+    (λ c κs. search needs)
     returns-3
     returns-4
     returns-5)

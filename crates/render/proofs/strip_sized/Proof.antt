@@ -17,9 +17,6 @@ returns-2 c = sym (not-true _ (λ t. let f = strip-facts _ _ _ _ _ _ t in omega 
 returns-3 : tie.Need-returns-3
 returns-3 c = sym (not-true _ (λ t. let f = strip-facts _ _ _ _ _ _ t in omega arith))
 
-add-if4 : tie.Need-add-if4
-add-if4 c = search needs
-
 returns-4 : tie.Need-returns-4
 returns-4 c = sym (not-true _ (λ t. let f = strip-facts _ _ _ _ _ _ t in omega arith))
 
@@ -28,4 +25,4 @@ unfolding stripFits
 returns-5 c = rw (eq-eqb _ _ (c .before .before .before .if1 .left), eq-eqb _ _ (c .before .before .if2 .left), eq-eqb _ _ (c .before .if3 .left), eq-eqb _ _ (c .if4 .left))
 
 pub strip-sized-spec : {M : Type 1} → statement M
-strip-sized-spec = tie.close (tie.spec returns returns-2 returns-3 add-if4 returns-4 returns-5)
+strip-sized-spec = tie.close (tie.spec returns returns-2 returns-3 (λ c. search needs) returns-4 returns-5)

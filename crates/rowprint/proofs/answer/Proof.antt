@@ -6,21 +6,6 @@ use Rattle.rowprint.proofs.Answers.{take-within, counts, answers-row, a
 use Rattle.rowprint.proofs.answer.Statement.{statement}
 use Rattle.rowprint.proofs.answer.Tie as tie
 
-read-row-requires : tie.Need-read-row-requires
-read-row-requires c κs = search needs
-
-enum-known-parsed : tie.Need-enum-known-parsed
-enum-known-parsed c = search needs
-
-enum-told : tie.Need-enum-told
-enum-told c = search needs
-
-slice-aggregate-put-text : tie.Need-slice-aggregate-put-text
-slice-aggregate-put-text c = search needs
-
-put-text-requires : tie.Need-put-text-requires
-put-text-requires c κs = search needs
-
 returns : tie.Need-returns
 returns c =
     let text = c .before .before .before .before .before .before .before .args .text .now in
@@ -64,11 +49,11 @@ pub answer-spec : {M : Type 1} → statement M
 answer-spec =
     tie.close
     (tie.spec
-    read-row-requires
-    enum-known-parsed
-    enum-told
-    slice-aggregate-put-text
-    put-text-requires
+    (λ c κs. search needs)
+    (λ c. search needs)
+    (λ c. search needs)
+    (λ c. search needs)
+    (λ c κs. search needs)
     returns
     array-share-prefix-texture
     slice-aggregate-put-drawing

@@ -14,31 +14,10 @@ Inv-loop out₀ w samples marks fronts at₀ p₀ out at p = (p ≤ w) × Lines 
 abbrev μ-loop : tie.MeasureT-loop
 μ-loop out₀ w samples marks fronts at₀ p₀ out at p = w - p
 
-put-header-requires : tie.Need-put-header-requires Inv-loop μ-loop
-put-header-requires c κs = search needs
-
 loop-holds : tie.Need-loop-holds Inv-loop μ-loop
 loop-holds c =
     let a = c .before .before .before .before .before .before .before .before .args in
     (omega arith, lines-none (shownLine (a .samples .now) (a .marks .now) (a .fronts .now)) (headerOf (a .w)) (c .before .before .put-header .ensures))
-
-shared-slice-read-put-position : tie.Need-shared-slice-read-put-position Inv-loop μ-loop
-shared-slice-read-put-position c = search needs
-
-mark-at-requires : tie.Need-mark-at-requires Inv-loop μ-loop
-mark-at-requires c κs = search needs
-
-shared-slice-read-put-position-2 : tie.Need-shared-slice-read-put-position-2 Inv-loop μ-loop
-shared-slice-read-put-position-2 c = search needs
-
-put-position-requires : tie.Need-put-position-requires Inv-loop μ-loop
-put-position-requires c κs = search needs
-
-add-p : tie.Need-add-p Inv-loop μ-loop
-add-p c = search needs
-
-loop-less : tie.Need-loop-less Inv-loop μ-loop
-loop-less c = search needs
 
 loop-again : tie.Need-loop-again Inv-loop μ-loop
 loop-again c =
@@ -49,9 +28,6 @@ loop-again c =
       lines-next (shownLine (a .samples .now) (a .marks .now) (a .fronts .now)) (headerOf (a .w)) (i .p) (i .inv .1)
           (put-shown (a .samples .now) (a .marks .now) (a .fronts .now) (i .p) (mark .result) (mark .ensures) (c .before .before .put-position .ensures)),
     )
-
-same-length : tie.Need-same-length Inv-loop μ-loop
-same-length c = search needs
 
 returns : tie.Need-returns Inv-loop μ-loop
 returns c =
@@ -65,14 +41,14 @@ put-row-spec =
     (tie.spec
     Inv-loop
     μ-loop
-    put-header-requires
+    (λ c κs. search needs)
     loop-holds
-    shared-slice-read-put-position
-    mark-at-requires
-    shared-slice-read-put-position-2
-    put-position-requires
-    add-p
-    loop-less
+    (λ c. search needs)
+    (λ c κs. search needs)
+    (λ c. search needs)
+    (λ c κs. search needs)
+    (λ c. search needs)
+    (λ c. search needs)
     loop-again
-    same-length
+    (λ c. search needs)
     returns)

@@ -18,21 +18,6 @@ abbrev μ-loop : tie.MeasureT-loop
 loop-holds : tie.Need-loop-holds Inv-loop μ-loop
 loop-holds c = (omega arith, length-replicate {A = ℕ} 256 0, λ i h. absurd (not-suc-le-zero h))
 
-cast-entries : tie.Need-cast-entries Inv-loop μ-loop
-cast-entries c = search needs
-
-mul-entries : tie.Need-mul-entries Inv-loop μ-loop
-mul-entries c = search needs
-
-array-write-entries : tie.Need-array-write-entries Inv-loop μ-loop
-array-write-entries c = search needs
-
-add-d : tie.Need-add-d Inv-loop μ-loop
-add-d c = search needs
-
-loop-less : tie.Need-loop-less Inv-loop μ-loop
-loop-less c = search needs
-
 loop-again : tie.Need-loop-again Inv-loop μ-loop
 loop-again c =
     let i = c .before .loop in
@@ -48,10 +33,10 @@ table-spec =
     Inv-loop
     μ-loop
     loop-holds
-    cast-entries
-    mul-entries
-    array-write-entries
-    add-d
-    loop-less
+    (λ c. search needs)
+    (λ c. search needs)
+    (λ c. search needs)
+    (λ c. search needs)
+    (λ c. search needs)
     loop-again
     returns)

@@ -5,12 +5,6 @@ use Rattle.rowtext.proofs.Spare.{zeros-zero}
 use Rattle.rowtext.proofs.bad.Statement.{statement}
 use Rattle.rowtext.proofs.bad.Tie as tie
 
-zeros-requires : tie.Need-zeros-requires
-zeros-requires c κs = search needs
-
-zeros-requires-2 : tie.Need-zeros-requires-2
-zeros-requires-2 c κs = search needs
-
 returns : tie.Need-returns
 returns c =
     record {
@@ -20,4 +14,4 @@ returns c =
     }
 
 pub bad-spec : {M : Type 1} → statement M
-bad-spec = tie.close (tie.spec zeros-requires zeros-requires-2 returns)
+bad-spec = tie.close (tie.spec (λ c κs. search needs) (λ c κs. search needs) returns)

@@ -16,9 +16,6 @@ returns-2 c =
     let b = c .before .before .args .b in
     rw (le-ltb b 48 (c .before .if1 .left), lt-ltb 57 b (c .if2 .taken)) (omega arith)
 
-cast-result : tie.Need-cast-result
-cast-result c = search needs
-
 returns-3 : tie.Need-returns-3
 unfolding digitOf
 returns-3 c =
@@ -26,4 +23,4 @@ returns-3 c =
     rw (le-ltb b 48 (c .before .if1 .left), le-ltb 57 b (c .if2 .left)) (omega arith)
 
 pub digit-of-spec : {M : Type 1} → statement M
-digit-of-spec = tie.close (tie.spec returns returns-2 cast-result returns-3)
+digit-of-spec = tie.close (tie.spec returns returns-2 (λ c. search needs) returns-3)

@@ -12,11 +12,8 @@ between : (n : ℕ) → (n ≡ 0 → ⊥) → space ≡ markOf n
 between zero h = absurd (h refl)
 between (suc n) h = refl
 
-returns : tie.Need-returns
-returns c = search needs
-
 returns-2 : tie.Need-returns-2
 returns-2 c = (between (c .before .args .n) (c .if1 .left), omega arith)
 
 pub mark-of-spec : {M : Type 1} → statement M
-mark-of-spec = tie.close (tie.spec returns returns-2)
+mark-of-spec = tie.close (tie.spec (λ c. search needs) returns-2)

@@ -6,23 +6,11 @@ use Rattle.rowtext.proofs.Positions.{field-missing, field-next, field-f
 use Rattle.rowtext.proofs.read_field.Statement.{statement}
 use Rattle.rowtext.proofs.read_field.Tie as tie
 
-read-number-requires : tie.Need-read-number-requires
-read-number-requires c κs = search needs
-
-enum-known-value : tie.Need-enum-known-value
-enum-known-value c = search needs
-
-enum-told : tie.Need-enum-told
-enum-told c = search needs
-
 returns : tie.Need-returns
 returns c =
     let a = c .before .before .before .before .args in
     let n = c .before .before .read-number in
     field-missing (a .most) (a .mark) (a .text .now) (a .at) (n .result) (n .ensures) (c .enum-told .given .1)
-
-byte-at-requires : tie.Need-byte-at-requires
-byte-at-requires c κs = search needs
 
 add-t10 : tie.Need-add-t10
 add-t10 c =
@@ -53,11 +41,11 @@ pub read-field-spec : {M : Type 1} → statement M
 read-field-spec =
     tie.close
     (tie.spec
-    read-number-requires
-    enum-known-value
-    enum-told
+    (λ c κs. search needs)
+    (λ c. search needs)
+    (λ c. search needs)
     returns
-    byte-at-requires
+    (λ c κs. search needs)
     add-t10
     returns-2
     returns-3)

@@ -19,31 +19,10 @@ Inv-loop text from w values₀ at₀ k₀ values at k =
 abbrev μ-loop : tie.MeasureT-loop
 μ-loop text from w values₀ at₀ k₀ values at k = w - k
 
-zeros-requires : tie.Need-zeros-requires Inv-loop μ-loop
-zeros-requires c κs = search needs
-
 loop-holds : tie.Need-loop-holds Inv-loop μ-loop
 loop-holds c =
     let z = c .zeros in
     (omega arith, ap length (z .ensures), zeros-zero 64 (z .result) (z .ensures), turn-first (c .before .before .args .w) (z .result) _)
-
-sub-mark-of : tie.Need-sub-mark-of Inv-loop μ-loop
-sub-mark-of c = search needs
-
-sub-mark-of-2 : tie.Need-sub-mark-of-2 Inv-loop μ-loop
-sub-mark-of-2 c = search needs
-
-mark-of-requires : tie.Need-mark-of-requires Inv-loop μ-loop
-mark-of-requires c κs = search needs
-
-read-field-requires : tie.Need-read-field-requires Inv-loop μ-loop
-read-field-requires c κs = search needs
-
-enum-known-value : tie.Need-enum-known-value Inv-loop μ-loop
-enum-known-value c = search needs
-
-enum-told : tie.Need-enum-told Inv-loop μ-loop
-enum-told c = search needs
 
 returns : tie.Need-returns Inv-loop μ-loop
 returns c =
@@ -62,15 +41,6 @@ narrow-requires : tie.Need-narrow-requires Inv-loop μ-loop
 narrow-requires c κs =
     let v = c .before .value .given in
     rw (v .1) at (c .before .before .before .read-field .ensures .value)
-
-array-write-values : tie.Need-array-write-values Inv-loop μ-loop
-array-write-values c = search needs
-
-add-k : tie.Need-add-k Inv-loop μ-loop
-add-k c = search needs
-
-loop-less : tie.Need-loop-less Inv-loop μ-loop
-loop-less c = search needs
 
 loop-again : tie.Need-loop-again Inv-loop μ-loop
 loop-again c =
@@ -102,18 +72,18 @@ read-line-spec =
     (tie.spec
     Inv-loop
     μ-loop
-    zeros-requires
+    (λ c κs. search needs)
     loop-holds
-    sub-mark-of
-    sub-mark-of-2
-    mark-of-requires
-    read-field-requires
-    enum-known-value
-    enum-told
+    (λ c. search needs)
+    (λ c. search needs)
+    (λ c κs. search needs)
+    (λ c κs. search needs)
+    (λ c. search needs)
+    (λ c. search needs)
     returns
     narrow-requires
-    array-write-values
-    add-k
-    loop-less
+    (λ c. search needs)
+    (λ c. search needs)
+    (λ c. search needs)
     loop-again
     returns-2)

@@ -6,35 +6,11 @@ use Rattle.rowtext.proofs.Rows.{no-samples, no-depths, lines-then, not-
 use Rattle.rowtext.proofs.read_lines.Statement.{statement}
 use Rattle.rowtext.proofs.read_lines.Tie as tie
 
-read-line-requires : tie.Need-read-line-requires
-read-line-requires c κs = search needs
-
-enum-known-first-end : tie.Need-enum-known-first-end
-enum-known-first-end c = search needs
-
-enum-told : tie.Need-enum-told
-enum-told c = search needs
-
-bad-requires : tie.Need-bad-requires
-bad-requires c κs = search needs
-
 returns : tie.Need-returns
 returns c =
     let a = c .before .before .before .before .before .args in
     let first = rw (c .before .enum-told .given .1) at (c .before .before .before .read-line .ensures .read) in
     rw (← no-samples (a .w) _ first) (c .bad .ensures)
-
-read-line-requires-2 : tie.Need-read-line-requires-2
-read-line-requires-2 c κs = search needs
-
-enum-known-second-end : tie.Need-enum-known-second-end
-enum-known-second-end c = search needs
-
-enum-told-2 : tie.Need-enum-told-2
-enum-told-2 c = search needs
-
-bad-requires-2 : tie.Need-bad-requires-2
-bad-requires-2 c κs = search needs
 
 returns-2 : tie.Need-returns-2
 returns-2 c =
@@ -42,9 +18,6 @@ returns-2 c =
     let first = rw (c .before .before .before .before .before .first-end .given .1) at (c .before .before .before .before .before .before .before .read-line .ensures .read) in
     let second = rw (c .before .enum-told2 .given .1) at (c .before .before .before .read-line2 .ensures .read) in
     rw (← no-depths (a .w) _ _ _ first second) (c .bad2 .ensures)
-
-bad-requires-3 : tie.Need-bad-requires-3
-bad-requires-3 c κs = search needs
 
 returns-3 : tie.Need-returns-3
 returns-3 c =
@@ -70,16 +43,16 @@ pub read-lines-spec : {M : Type 1} → statement M
 read-lines-spec =
     tie.close
     (tie.spec
-    read-line-requires
-    enum-known-first-end
-    enum-told
-    bad-requires
+    (λ c κs. search needs)
+    (λ c. search needs)
+    (λ c. search needs)
+    (λ c κs. search needs)
     returns
-    read-line-requires-2
-    enum-known-second-end
-    enum-told-2
-    bad-requires-2
+    (λ c κs. search needs)
+    (λ c. search needs)
+    (λ c. search needs)
+    (λ c κs. search needs)
     returns-2
-    bad-requires-3
+    (λ c κs. search needs)
     returns-3
     returns-4)

@@ -16,9 +16,6 @@ Inv-loop text at most first value₀ next₀ value next =
 abbrev μ-loop : tie.MeasureT-loop
 μ-loop text at most first value₀ next₀ value next = length text - next
 
-digit-at-requires : tie.Need-digit-at-requires Inv-loop μ-loop
-digit-at-requires c κs = search needs
-
 returns : tie.Need-returns Inv-loop μ-loop
 returns c =
     let a = c .before .before .before .args in
@@ -39,9 +36,6 @@ loop-holds c =
     let k : d .result < 10 = omega arith in
     let h = digit-within (a .most) (a .text .now) (a .at) (d .result) (d .ensures .0) k in
     (omega arith, omega arith, first-at (a .most) (a .text .now) (a .at) (d .result) (d .ensures .0) k)
-
-digit-at-requires-2 : tie.Need-digit-at-requires-2 Inv-loop μ-loop
-digit-at-requires-2 c κs = search needs
 
 returns-2 : tie.Need-returns-2 Inv-loop μ-loop
 returns-2 c =
@@ -64,12 +58,6 @@ returns-3 c =
       value = omega arith;
       within = omega arith;
     }
-
-mul-value : tie.Need-mul-value Inv-loop μ-loop
-mul-value c = search needs
-
-add-value : tie.Need-add-value Inv-loop μ-loop
-add-value c = search needs
 
 returns-4 : tie.Need-returns-4 Inv-loop μ-loop
 returns-4 c =
@@ -113,15 +101,15 @@ read-number-spec =
     (tie.spec
     Inv-loop
     μ-loop
-    digit-at-requires
+    (λ c κs. search needs)
     returns
     add-next
     loop-holds
-    digit-at-requires-2
+    (λ c κs. search needs)
     returns-2
     returns-3
-    mul-value
-    add-value
+    (λ c. search needs)
+    (λ c. search needs)
     returns-4
     add-next-2
     loop-less

@@ -4,26 +4,11 @@ use Rattle.rowtext.proofs.Rows.{no-width, zero-width, width-then, promi
 use Rattle.rowtext.proofs.read_row.Statement.{statement}
 use Rattle.rowtext.proofs.read_row.Tie as tie
 
-read-field-requires : tie.Need-read-field-requires
-read-field-requires c κs = search needs
-
-enum-known-value : tie.Need-enum-known-value
-enum-known-value c = search needs
-
-enum-told : tie.Need-enum-told
-enum-told c = search needs
-
-bad-requires : tie.Need-bad-requires
-bad-requires c κs = search needs
-
 returns : tie.Need-returns
 returns c =
     let text = c .before .before .before .before .before .args .text .now in
     let width = rw (c .before .enum-told .given .1) at (c .before .before .before .read-field .ensures .read) in
     promised text _ (no-width text width) _ _ _ (c .bad .ensures)
-
-bad-requires-2 : tie.Need-bad-requires-2
-bad-requires-2 c κs = search needs
 
 returns-2 : tie.Need-returns-2
 returns-2 c =
@@ -31,9 +16,6 @@ returns-2 c =
     let v = c .before .before .before .value .given in
     let width = rw (v .1) at (c .before .before .before .before .before .read-field .ensures .read) in
     promised text _ (zero-width text (v .0 .0) _ width (c .before .if1 .taken)) _ _ _ (c .bad2 .ensures)
-
-cast-read-lines : tie.Need-cast-read-lines
-cast-read-lines c = search needs
 
 read-lines-requires : tie.Need-read-lines-requires
 read-lines-requires c κs = rw (c .before .before .value .given .1) at (c .before .before .before .before .read-field .ensures .value)
@@ -49,13 +31,13 @@ pub read-row-spec : {M : Type 1} → statement M
 read-row-spec =
     tie.close
     (tie.spec
-    read-field-requires
-    enum-known-value
-    enum-told
-    bad-requires
+    (λ c κs. search needs)
+    (λ c. search needs)
+    (λ c. search needs)
+    (λ c κs. search needs)
     returns
-    bad-requires-2
+    (λ c κs. search needs)
     returns-2
-    cast-read-lines
+    (λ c. search needs)
     read-lines-requires
     returns-3)

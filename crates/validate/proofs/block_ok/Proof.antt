@@ -11,29 +11,11 @@ use Rattle.validate.proofs.block_ok.Tie as tie
 returns : tie.Need-returns
 returns c = sym (not-true _ (λ t. let f = block-facts _ _ t in omega arith))
 
-cast-if2 : tie.Need-cast-if2
-cast-if2 c = search needs
-
-cast-if2-2 : tie.Need-cast-if2-2
-cast-if2-2 c = search needs
-
-add-if2 : tie.Need-add-if2
-add-if2 c = search needs
-
 returns-2 : tie.Need-returns-2
 returns-2 c = sym (not-true _ (λ t. let f = block-facts _ _ t in omega arith))
 
 returns-3 : tie.Need-returns-3
 returns-3 c = sym (not-true _ (λ t. let f = block-facts _ _ t in omega arith))
-
-cast-result : tie.Need-cast-result
-cast-result c = search needs
-
-cast-result-2 : tie.Need-cast-result-2
-cast-result-2 c = search needs
-
-add-result : tie.Need-add-result
-add-result c = search needs
 
 returns-4 : tie.Need-returns-4
 returns-4 c =
@@ -44,12 +26,12 @@ block-ok-spec =
     tie.close
     (tie.spec
     returns
-    cast-if2
-    cast-if2-2
-    add-if2
+    (λ c. search needs)
+    (λ c. search needs)
+    (λ c. search needs)
     returns-2
     returns-3
-    cast-result
-    cast-result-2
-    add-result
+    (λ c. search needs)
+    (λ c. search needs)
+    (λ c. search needs)
     returns-4)

@@ -21,15 +21,9 @@ planes-ok c = sym (c .before .planes-sized .ensures) ∙ not-false _ (c .if3 .le
 tables-ok : (c : tie.Else4) → let a = c .before .before .before .before .before .before .before .before .args in (tableOk (a .left .now) && tableOk (a .right .now)) ≡ true
 tables-ok c = sym (c .before .tables-ok .ensures) ∙ not-false _ (c .if4 .left)
 
-side-ok-requires : tie.Need-side-ok-requires
-side-ok-requires c κs = search needs
-
 returns : tie.Need-returns
 unfolding commonNumber
 returns c = rw (sym (c .before .side-ok .ensures) ∙ not-true _ (c .if1 .taken))
-
-side-ok-requires-2 : tie.Need-side-ok-requires-2
-side-ok-requires-2 c κs = search needs
 
 returns-2 : tie.Need-returns-2
 unfolding commonNumber
@@ -41,9 +35,6 @@ planes-sized-requires c κs = (side-facts _ (w-ok (c .before .before)) .most, si
 returns-3 : tie.Need-returns-3
 unfolding commonNumber
 returns-3 c = rw (w-ok (c .before .before .before .before), h-ok (c .before .before), sym (c .before .planes-sized .ensures) ∙ not-true _ (c .if3 .taken))
-
-tables-ok-requires : tie.Need-tables-ok-requires
-tables-ok-requires c κs = search needs
 
 returns-4 : tie.Need-returns-4
 unfolding commonNumber
@@ -81,13 +72,13 @@ pub common-spec : {M : Type 1} → statement M
 common-spec =
     tie.close
     (tie.spec
-    side-ok-requires
+    (λ c κs. search needs)
     returns
-    side-ok-requires-2
+    (λ c κs. search needs)
     returns-2
     planes-sized-requires
     returns-3
-    tables-ok-requires
+    (λ c κs. search needs)
     returns-4
     returns-5
     returns-6)

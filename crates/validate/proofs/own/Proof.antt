@@ -12,18 +12,9 @@ returns : tie.Need-returns
 unfolding ownThen
 returns c = rw (lt-leb _ _ (c .if1 .taken))
 
-block-ok-requires : tie.Need-block-ok-requires
-block-ok-requires c κs = search needs
-
 returns-2 : tie.Need-returns-2
 unfolding ownThen
 returns-2 c = rw (le-leb _ _ (c .before .before .if1 .left), sym (c .before .block-ok .ensures) ∙ not-true _ (c .if2 .taken))
-
-cast-area : tie.Need-cast-area
-cast-area c = search needs
-
-cast-area-2 : tie.Need-cast-area-2
-cast-area-2 c = search needs
 
 mul-area : tie.Need-mul-area
 mul-area c =
@@ -55,10 +46,10 @@ own-spec =
     tie.close
     (tie.spec
     returns
-    block-ok-requires
+    (λ c κs. search needs)
     returns-2
-    cast-area
-    cast-area-2
+    (λ c. search needs)
+    (λ c. search needs)
     mul-area
     returns-3
     returns-4)

@@ -13,21 +13,12 @@ use Rattle.validate.proofs.planes_sized.Tie as tie
 mul-n : tie.Need-mul-n
 mul-n c = omega (arith, mul-le-mul (c .pre .0) (c .pre .1))
 
-add-m : tie.Need-add-m
-add-m c = search needs
-
 mul-m : tie.Need-mul-m
 mul-m c = let b : (c .args .w + 7) / 8 ≤ 512 = omega arith in omega (arith, mul-le-mul b (c .pre .1))
-
-view-sized-requires : tie.Need-view-sized-requires
-view-sized-requires c κs = search needs
 
 returns : tie.Need-returns
 unfolding planesFit
 returns c = rw (sym (c .before .view-sized .ensures) ∙ not-true _ (c .if1 .taken))
-
-view-sized-requires-2 : tie.Need-view-sized-requires-2
-view-sized-requires-2 c κs = search needs
 
 returns-2 : tie.Need-returns-2
 unfolding planesFit
@@ -54,11 +45,11 @@ planes-sized-spec =
     tie.close
     (tie.spec
     mul-n
-    add-m
+    (λ c. search needs)
     mul-m
-    view-sized-requires
+    (λ c κs. search needs)
     returns
-    view-sized-requires-2
+    (λ c κs. search needs)
     returns-2
     returns-3
     returns-4)

@@ -12,35 +12,8 @@ Inv-loop word entries i₀ t4 i = i ≤ length entries
 abbrev μ-loop : tie.MeasureT-loop
 μ-loop word entries i₀ t4 i = length entries - i
 
-say-requires : tie.Need-say-requires Inv-loop μ-loop
-say-requires c κs = search needs
-
-loop-holds : tie.Need-loop-holds Inv-loop μ-loop
-loop-holds c = search needs
-
-slice-aggregate-say-number : tie.Need-slice-aggregate-say-number Inv-loop μ-loop
-slice-aggregate-say-number c = search needs
-
-shared-slice-read-say-number : tie.Need-shared-slice-read-say-number Inv-loop μ-loop
-shared-slice-read-say-number c = search needs
-
 cast-say-number : tie.Need-cast-say-number Inv-loop μ-loop
 cast-say-number c = omega (arith, c .shared-slice-known3 .given (c .before .before .before .loop .i))
-
-say-number-requires : tie.Need-say-number-requires Inv-loop μ-loop
-say-number-requires c κs = search needs
-
-add-i : tie.Need-add-i Inv-loop μ-loop
-add-i c = search needs
-
-loop-less : tie.Need-loop-less Inv-loop μ-loop
-loop-less c = search needs
-
-loop-again : tie.Need-loop-again Inv-loop μ-loop
-loop-again c = search needs
-
-returns : tie.Need-returns Inv-loop μ-loop
-returns c = search needs
 
 pub say-entries-spec : {M : Type 1} → statement M
 say-entries-spec =
@@ -48,13 +21,13 @@ say-entries-spec =
     (tie.spec
     Inv-loop
     μ-loop
-    say-requires
-    loop-holds
-    slice-aggregate-say-number
-    shared-slice-read-say-number
+    (λ c κs. search needs)
+    (λ c. search needs)
+    (λ c. search needs)
+    (λ c. search needs)
     cast-say-number
-    say-number-requires
-    add-i
-    loop-less
-    loop-again
-    returns)
+    (λ c κs. search needs)
+    (λ c. search needs)
+    (λ c. search needs)
+    (λ c. search needs)
+    (λ c. search needs))
