@@ -1,6 +1,6 @@
 -- A block that is set, in the words of the model's promises: r is whether the view is the right one, and the arguments are those that an
 -- entry passes for it.
---     own-table, own-sized, other-sized, block-in     what set_block requires, from what the refusals leave
+--     own-sized                                       what set_block requires of the view's own planes, from what the refusals leave
 --     set-depths                                      the depths are the written ones
 --     set-untouched                                   whatever the planes hold, the other view and the rows outside the block are as they were
 --     set-fresh                                       planes that were the fresh drawing are that of the written depths
@@ -9,7 +9,6 @@ use mathlib.Core.Path.{_≡_, refl, sym, ap, _∙_}
 use mathlib.Core.Bool.{Bool, true, false, not}
 use mathlib.Core.List.{List}
 use native.Mathlib.Nat.{mul-comm}
-use lib.ListN.{length}
 use lib.IntN.{pos}
 use Rattle.model.specs.declared.Settings.{Settings}
 use Rattle.model.specs.declared.Block.{Block}
@@ -21,26 +20,21 @@ use Rattle.model.specs.Combined.{combinedOf}
 use Rattle.model.specs.Planes.{Pictures, Depths, View, Held, depths, held, tableOf, textureOf, depthsOf, viewOf, viewRows, heldRow}
 use Rattle.model.specs.Fresh.{freshRow, freshView, shownAt, freshSample, freshCombined, fresh}
 use Rattle.model.specs.Blocks.{inRows, writtenPlane, written}
-use Rattle.model.specs.Refusals.{tableOk}
 use Rattle.model.specs.Promises.{Untouched}
 use Rattle.model.proofs.Lists.{list-same, plane-ext}
 use Rattle.model.proofs.Fresh.{DepthsSized, row-fresh-samples, row-fresh-fronts, row-fresh-limits, row-fresh-marks, length-fresh-samples, length-fresh-fronts, length-fresh-limits, length-fresh-marks, mark-fresh, row-fresh-combined, length-fresh-combined, view-fresh}
 use Rattle.model.proofs.Written.{written-own, written-other}
 use Rattle.model.proofs.Locality.{sized-written}
-use Rattle.model.proofs.Refusals.{table-yes, Common, Own}
+use Rattle.model.proofs.Refusals.{Common}
 use Rattle.planes.proofs.Views.{view-same}
 use Rattle.marks.specs.Puts.{heldPixel}
 use Rattle.sums.specs.Sides.{paired}
 use Rattle.commit.specs.Commit.{Sized, SoundRow, heldIn}
-use Rattle.combine.specs.Combine.{combinedRow, OtherSized, BlockIn, BlockSet}
+use Rattle.combine.specs.Combine.{combinedRow, BlockSet}
 
 -- ---- what set_block requires
 
 module _ {s : Settings} {p : Pictures} {d : Depths} {h : Held} (common : Common s p d h) where
-  pub own-table : (r : Bool) → tableOk (tableOf s r) ≡ true
-  own-table true = table-yes (s .right) (common .tables .right)
-  own-table false = table-yes (s .left) (common .tables .left)
-
   pub own-sized : (r : Bool) → Sized (s .w) (s .h) (textureOf p r) (depthsOf d r) (viewOf h r)
   own-sized true =
       record {
@@ -60,25 +54,6 @@ module _ {s : Settings} {p : Pictures} {d : Depths} {h : Held} (common : Common 
         limits = common .held .left .limits;
         marks = common .held .left .marks;
       }
-
-  pub other-sized : (q : Bool) → OtherSized (s .w) (s .h) (viewOf h q .samples) (viewOf h q .fronts) (viewOf h q .marks) (h .combined)
-  other-sized true =
-      record {
-        samples = common .held .right .samples;
-        fronts = common .held .right .fronts;
-        marks = common .held .right .marks;
-        combined = common .held .combined;
-      }
-  other-sized false =
-      record {
-        samples = common .held .left .samples;
-        fronts = common .held .left .fronts;
-        marks = common .held .left .marks;
-        combined = common .held .combined;
-      }
-
-pub block-in : {s : Settings} {v : ℕ} {b : Block} {c : List ℕ} → Own s v b (length c) → BlockIn (s .w) (s .h) b c
-block-in own = record { some = own .block .width; right = own .block .right; below = own .block .bottom; size = own .entries }
 
 -- ---- what is lent and what stays, by view
 

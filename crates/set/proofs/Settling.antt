@@ -4,10 +4,9 @@
 --     settled-by        settled in the planes of one view, a candidate is settled
 --     refused, settled  the two ways out of SET: refused before the trial, and settled
 use Prim.Native.Nat.{ℕ, _≤_}
-use mathlib.Core.Path.{_≡_, refl, sym, ap, _∙_}
+use mathlib.Core.Path.{_≡_, refl, ap, _∙_}
 use mathlib.Core.Bool.{Bool, true, false, not}
 use mathlib.Core.List.{List}
-use native.Mathlib.Omega.{arith}
 use lib.IntN.{ℤ, pos, _+ℤ_, natAbs}
 use lib.ListN.{length}
 use Rattle.model.specs.declared.Settings.{Settings}
@@ -25,7 +24,6 @@ use Rattle.commit.specs.Commit as commit
 use Rattle.combine.specs.Combine.{OtherSized, BlockIn}
 use Rattle.combine.proofs.Session.{own-sized, withDepths, withView, set-depths, set-untouched, set-fresh}
 use Rattle.decide.specs.declared.Decision.{Decision}
-use Rattle.decide.specs.Decided.{Decided}
 use Rattle.decide.proofs.Ways.{passed, tried, decided-early, decided-late}
 use Rattle.set.specs.Settled.{OwnSettled, Settled}
 
