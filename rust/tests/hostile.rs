@@ -26,7 +26,8 @@ struct Call {
 impl Call {
     /// A call that is accepted, on a session just opened.
     fn accepted(random: &mut Random) -> Call {
-        let (w, h) = (random.between(1, 40), random.between(1, 6));
+        let widest = if random.once_in(10) { 140 } else { 40 };
+        let (w, h) = (random.between(1, widest), random.between(1, 6));
         let (share, tolerance) = (random.between(0, 64) as u8, random.byte());
         let scene = Scene::sized(random, w, h, share, tolerance);
         let mut settings = scene.settings;

@@ -1,5 +1,5 @@
 //! The speed program, shortly: the library, the full redraw and the span renderer must answer alike, also in the calls whose
-//! instructions are counted.
+//! instructions are counted, and HOLES must count as both ways of counting do.
 
 use std::process::{Command, Output};
 
@@ -14,7 +14,11 @@ fn said(output: &Output) -> String {
 
 #[test]
 fn all_three_answer_alike() {
-    assert!(said(&speed(&["--short"])).contains("GET / span renderer at 4 × 4, 8 × 8, 64 × 64: "));
+    let said = said(&speed(&["--short"]));
+    assert!(
+        said.contains("GET / span renderer at 4 × 4, 8 × 8, 64 × 64: ")
+            && said.contains("HOLES / by the word at 1,024 and 1,001 columns: ")
+    );
 }
 
 /// The sum of the answers of one round, which is another than that of none.

@@ -14,8 +14,8 @@ use Rattle.model.proofs.Packing.{Flags, div-step}
 use Rattle.marks.specs.Puts.{putBit}
 
 -- a shift of 1 loses nothing
-pub one-shl : (k : ℕ) → k < 8 → 1 * 2 ^ k % 256 ≡ 2 ^ k
-one-shl k h = shl-exact 1 k 8 (omega arith) (omega arith) ∙ one-mul (2 ^ k)
+pub one-shl : (n k : ℕ) → k < n → 1 * 2 ^ k % 2 ^ n ≡ 2 ^ k
+one-shl n k h = shl-exact 1 k n (omega arith) (omega arith) ∙ one-mul (2 ^ k)
 
 -- the bit that is taken away is there
 pub clear-le : (b m : ℕ) → b / m % 2 * m ≤ b

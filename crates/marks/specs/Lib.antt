@@ -1,2 +1,3 @@
--- Packed marks as they are written, and a held row as it is read.
+-- Packed marks as they are written, a held row as it is read, and mark bytes joined to a word.
 pub mod Puts
+pub mod Words

@@ -1,4 +1,4 @@
-// The session of document 01, its cases without a star, and every refusal alone and before the next: each line says what the entries answered.
+// The session of document 01, its cases without a star, every refusal alone and before the next, and HOLES of given marks: each line says what the entries answered.
 use model::Block;
 use model::Count;
 use model::Edited;
@@ -996,10 +996,51 @@ fn run_strip_order() {
     strip(b"row 3 before 6", settings(4, 1, 1024, 255, 0), 2, &near);
 }
 
+// HOLES of each view.
+fn marked(title: &[u8], given: Settings, left: &[u8], right: &[u8]) {
+    say(title);
+    counted(given, 0, left, right);
+    counted(given, 1, left, right);
+    say(b"\n");
+}
+
+// HOLES of rows with and without whole words and a tail: every bit 1 in the left view, the last of each byte in the right, spare bits too.
+fn run_holes() {
+    let all = [255u8; 22];
+    let last = [128u8; 22];
+    marked(
+        b"marks w 7",
+        settings(7, 1, 255, 255, 0),
+        &all[0..1],
+        &last[0..1],
+    );
+    marked(
+        b"marks w 63",
+        settings(63, 1, 255, 255, 0),
+        &all[0..8],
+        &last[0..8],
+    );
+    marked(
+        b"marks w 64",
+        settings(64, 1, 255, 255, 0),
+        &all[0..8],
+        &last[0..8],
+    );
+    marked(
+        b"marks w 65",
+        settings(65, 1, 255, 255, 0),
+        &all[0..9],
+        &last[0..9],
+    );
+    marked(b"marks w 83 h 2", settings(83, 2, 255, 255, 0), &all, &last);
+    marked(b"marks w 88 h 2", settings(88, 2, 255, 255, 0), &all, &last);
+}
+
 fn main() {
     run_taken();
     run_refused();
     run_order();
     run_strips();
     run_strip_order();
+    run_holes();
 }

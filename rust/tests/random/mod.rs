@@ -81,7 +81,8 @@ pub fn size(random: &mut Random) -> (usize, usize) {
         0 => (4096, random.between(1, 2)),
         1 => (random.between(1, 3), 4096),
         2..=5 => (random.between(200, 1100), random.between(1, 2)),
-        6..=40 => (random.between(41, 130), random.between(1, 4)),
+        6..=25 => (random.between(41, 130), random.between(1, 4)),
+        26..=40 => (random.pick(&[63, 64, 65, 72, 127, 128, 129]), random.between(1, 4)),
         41..=200 => (random.pick(&[1, 7, 8, 9, 15, 16, 17]), random.between(1, 6)),
         _ => (random.between(1, 40), random.between(1, 8)),
     }

@@ -1,5 +1,6 @@
 //! How fast the library is, as ratios measured in one run on one machine: its calls against a program that redraws the
-//! block's rows completely and against a span renderer written for speed in Rust. All three must answer alike.
+//! block's rows completely and against a span renderer written for speed in Rust, HOLES against counting by the mark and by
+//! the word. All three must answer alike.
 //!
 //! It prints the tables of docs/SPEED.md. `--short` measures little and is for seeing that the answers agree.
 //! `--instructions` counts instructions, which needs valgrind.
@@ -7,6 +8,7 @@
 mod calls;
 mod count;
 mod held;
+mod holes;
 mod redraw;
 #[path = "../demo/scene.rs"]
 mod scene;
@@ -57,6 +59,7 @@ fn times(effort: &Effort) {
     let open = open(&stage, effort);
     let wide = widths(effort);
     disparities(effort);
+    let holes = holes(effort);
     println!("Targets:");
     println!("GET / full redraw at 8 × 8: {:.3} (less than 0.1)", at_8.get[0]);
     let three = |ratio: fn(&Ratios) -> f64| [&at_4, &at_8, &at_64].map(|ratios| format!("{:.2}", ratio(ratios))).join(", ");
@@ -64,6 +67,9 @@ fn times(effort: &Effort) {
     println!("SET / span renderer at 4 × 4, 8 × 8, 64 × 64: {} (at most 1.7)", three(|ratios| ratios.set[1]));
     println!("OPEN / span renderer: {:.2} (at most 1.1)", open[1]);
     println!("GET at 4,096 columns / GET at 256 columns: {wide:.2} (flat)");
+    let [words, tails] = holes;
+    println!("HOLES / mark by mark at 1,024 and 1,001 columns: {:.3}, {:.3} (at most 0.2)", words[0], tails[0]);
+    println!("HOLES / by the word at 1,024 and 1,001 columns: {:.2}, {:.2} (at most 1.3)", words[1], tails[1]);
 }
 
 /// A scene and its settings.
@@ -155,7 +161,7 @@ fn median(mut numbers: Vec<f64>) -> f64 {
     numbers[numbers.len() / 2]
 }
 
-/// The medians of the library's time by the full redraw's and by the span renderer's.
+/// The medians of the library's time by the second program's and by the third's.
 fn ratios(times: &[[f64; 3]]) -> [f64; 2] {
     [1, 2].map(|other| median(times.iter().map(|t| t[0] / t[other]).collect()))
 }
@@ -226,6 +232,29 @@ fn open(stage: &Stage, effort: &Effort) -> [f64; 2] {
     println!("| 1,024 × 768 | OPEN / full drawing | OPEN / span renderer |");
     println!("|---|---|---|");
     println!("| whole picture | {:.2} | {:.2} |\n", ratios[0], ratios[1]);
+    ratios
+}
+
+/// HOLES of a picture whose rows are whole words, and of one whose rows have a tail.
+fn holes(effort: &Effort) -> [[f64; 2]; 2] {
+    println!("| HOLES | HOLES / mark by mark | HOLES / by the word |");
+    println!("|---|---|---|");
+    let ratios = [("1,024 × 768", 1024), ("1,001 × 768", 1001)].map(|(size, w)| {
+        let session = Stage::new(w, 768, 96).session();
+        let mut times = Vec::new();
+        for view in (0..effort.rounds * effort.blocks).map(|k| View::BOTH[k % 2]) {
+            let marks = black_box(session.planes().marks[view as usize]);
+            let (library, a) = timed(|| session.holes(view));
+            let (marked, b) = timed(|| holes::by_mark(marks, w));
+            let (words, c) = timed(|| holes::by_word(marks, w));
+            assert!(a == b && a == c, "the three count alike");
+            times.push([library, marked, words]);
+        }
+        let ratios = ratios(&times);
+        println!("| {size} | {:.3} | {:.2} |", ratios[0], ratios[1]);
+        ratios
+    });
+    println!();
     ratios
 }
 
