@@ -1,6 +1,6 @@
 //! HOLES over marks of every kind of row: whole words, a tail of bytes and bits, and spare bits of 1, which never count.
 //!
-//! Planes stand at the end of their memory and at every offset in a word, since the caller chooses where they lie.
+//! Random planes begin at every offset in a word, since the caller chooses where they lie.
 
 mod paper;
 mod random;
