@@ -10,7 +10,7 @@ use Rattle.model.specs.Marks.{markAt, rowHoles}
 use Rattle.model.proofs.Lists.{rows-apart}
 use Rattle.model.proofs.Sums.{sum-most}
 
-pub mark-lt : (row : List ℕ) (p : ℕ) → markAt row p < 2
+mark-lt : (row : List ℕ) (p : ℕ) → markAt row p < 2
 mark-lt row p = mod-lt (getD row (p / 8) 0 / 2 ^ (p % 8)) {m = 2} (omega arith)
 
 -- no more holes than positions

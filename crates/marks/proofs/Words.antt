@@ -86,13 +86,14 @@ bit-joined row h j (suc n) m hm =
     rw (q, r, ← s, high b (8 * n) hx) refl)
     (lt-or-le m (8 * n)))
 
--- one more bit
+-- a bit counts as itself
 one-bit : (b : ℕ) → b < 2 → ones b ≡ b
 unfolding ones
 one-bit zero h = refl
 one-bit (suc zero) h = refl
 one-bit (suc (suc b)) h = absurd (not-suc-le-zero (le-of-suc-le-suc (le-of-suc-le-suc h)))
 
+-- one more bit of a number
 ones-next : (x m : ℕ) → ones (x % 2 ^ suc m) ≡ ones (x % 2 ^ m) + bitOf x m
 ones-next x m =
     let e : x % 2 ^ suc m ≡ bitOf x m * 2 ^ m + x % 2 ^ m = rw (one-add m) at (mod-pow-add x 1 m) in

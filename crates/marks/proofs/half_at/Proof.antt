@@ -1,5 +1,4 @@
 -- `marks::half_at` meets its contract: the sum of the shifted bytes is the joined bytes.
-use mathlib.Core.Path.{_≡_}
 use native.Mathlib.Nat.{add-zero}
 use native.Mathlib.Omega.{arith}
 use borrow.Author.Needs.{needs}

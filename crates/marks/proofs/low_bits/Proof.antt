@@ -1,5 +1,4 @@
 -- `marks::low_bits` meets its contract.
-use mathlib.Core.Path.{_≡_}
 use borrow.Author.Needs.{needs}
 use lib.Pow.{pow-pos}
 use Rattle.marks.proofs.Bits.{one-shl}

@@ -1,9 +1,6 @@
 -- `marks::word_at` meets its contract: two halves are eight joined bytes.
-use Prim.Native.Nat.{_+_, _*_}
-use mathlib.Core.Path.{_≡_}
 use native.Mathlib.Omega.{arith}
 use borrow.Author.Needs.{needs}
-use Rattle.marks.specs.Words.{joined}
 use Rattle.marks.proofs.Words.{joined-join}
 use Rattle.marks.proofs.word_at.Statement.{statement}
 use Rattle.marks.proofs.word_at.Tie as tie
