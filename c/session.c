@@ -76,13 +76,13 @@ static void session(luph_settings *s, const luph_pictures *p, const luph_planes 
     s->total = 77; /* ignored */
     const int number = luph_open(s, p, q);
     printf("open: %d, total %lu\n", number, (unsigned long)s->total);
-    print_trial(s, p, q, 2, 4); /* case k: 125 */
+    print_trial(s, p, q, 2, 4); /* case k: 136 */
     print_trial(s, p, q, 2, 5); /* case l: 100 */
     print_set(s, p, q, 2, 4);
     print_row("combined", combined);
     print_check(s, p, q);
-    print_trial(s, p, q, 2, 5); /* case m: -25 */
-    print_set(s, p, q, 2, 0);   /* and -125, back at total 0 */
+    print_trial(s, p, q, 2, 5); /* case m: -36 */
+    print_set(s, p, q, 2, 0);   /* and -136, back at total 0 */
     print_check(s, p, q);
 }
 

@@ -18,7 +18,7 @@
 //!
 //! // Trying depths in column 2 of the left view changes nothing.
 //! let block = Block { column: 2, row: 0, width: 1, height: 1 };
-//! assert_eq!(session.get(View::Left, block, &[4])?, 125);
+//! assert_eq!(session.get(View::Left, block, &[4])?, 136);
 //! assert_eq!(session.get(View::Left, block, &[5])?, 100);
 //!
 //! // Setting one does.

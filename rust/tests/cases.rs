@@ -32,9 +32,9 @@ fn rows_a_to_g() {
     assert_eq!(one(0), (vec![50], vec![0]), "a");
     assert_eq!(one(4), (vec![50], vec![1]), "b");
     assert_eq!(row(View::Left, [0, 0, 0, 0]), (vec![10, 20, 30, 40], vec![0, 0, 0, 0]), "c");
-    assert_eq!(row(View::Left, [2, 2, 2, 2]), (vec![15, 25, 35, 40], vec![0, 0, 0, 1]), "d");
-    assert_eq!(row(View::Right, [2, 2, 2, 2]), (vec![10, 15, 25, 35], vec![1, 0, 0, 0]), "e");
-    assert_eq!(row(View::Left, [0, 0, 4, 0]), (vec![10, 30, 35, 40], vec![0, 0, 0, 0]), "f");
+    assert_eq!(row(View::Left, [2, 2, 2, 2]), (vec![14, 25, 36, 40], vec![0, 0, 0, 1]), "d");
+    assert_eq!(row(View::Right, [2, 2, 2, 2]), (vec![10, 14, 25, 36], vec![1, 0, 0, 0]), "e");
+    assert_eq!(row(View::Left, [0, 0, 4, 0]), (vec![10, 30, 36, 40], vec![0, 0, 0, 0]), "f");
     assert_eq!(row(View::Left, [0, 0, 5, 0]), (vec![10, 30, 40, 40], vec![0, 0, 1, 0]), "g");
 }
 
@@ -65,11 +65,11 @@ fn session_k_to_m() {
     let mut session = Session::open(&settings, &pictures, [&[0; 4], &[0; 4]]).expect("OPEN accepts it");
     let block = Block { column: 2, row: 0, width: 1, height: 1 };
     assert_eq!(session.total(), 0);
-    assert_eq!(session.get(View::Left, block, &[4]), Ok(125), "k");
+    assert_eq!(session.get(View::Left, block, &[4]), Ok(136), "k");
     assert_eq!(session.get(View::Left, block, &[5]), Ok(100), "l");
-    assert_eq!(session.set(View::Left, block, &[4]), Ok(125));
-    assert_eq!(session.get(View::Left, block, &[5]), Ok(-25), "m");
-    assert_eq!(session.set(View::Left, block, &[0]), Ok(-125), "m");
+    assert_eq!(session.set(View::Left, block, &[4]), Ok(136));
+    assert_eq!(session.get(View::Left, block, &[5]), Ok(-36), "m");
+    assert_eq!(session.set(View::Left, block, &[0]), Ok(-136), "m");
     assert_eq!(session.total(), 0, "m");
     assert_eq!(session.check(), Report::Sound);
 }

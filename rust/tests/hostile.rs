@@ -26,7 +26,7 @@ struct Call {
 impl Call {
     /// A call that is accepted, on a session just opened.
     fn accepted(random: &mut Random) -> Call {
-        let widest = if random.once_in(10) { 140 } else { 40 };
+        let widest = random.pick(&[9, 9, 9, 9, 40, 40, 40, 40, 40, 140]);
         let (w, h) = (random.between(1, widest), random.between(1, 6));
         let (share, tolerance) = (random.between(0, 64) as u8, random.byte());
         let scene = Scene::sized(random, w, h, share, tolerance);

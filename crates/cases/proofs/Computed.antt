@@ -1,16 +1,17 @@
--- The definitions that the small rows do not reach compute too: packed marks, hole counts, spans, refusals and CHECK's report,
--- on the session of document 01 (4 × 1, depths 0).
+-- The definitions that the small rows do not reach compute too: packed marks, hole counts, every filter, and, on the session of document 01
+-- (4 × 1, depths 0), spans, refusals and CHECK's report.
 use Prim.Native.Nat.{ℕ}
 use mathlib.Core.Path.{_≡_, refl}
-use mathlib.Core.Bool.{true, false}
+use mathlib.Core.Bool.{Bool, true, false}
 use mathlib.Core.List.{List, [], _∷_}
+use lib.ListN.{length}
 use lib.IntN.{pos}
 use Rattle.model.specs.declared.Settings.{Settings}
 use Rattle.model.specs.declared.Block.{Block}
 use Rattle.model.specs.declared.Report.{Report}
 use Rattle.model.specs.declared.Report.the-variants.{Sound, Difference, Total}
 use Rattle.model.specs.Lists.{listOf, listFrom, rows, rowOf, sumTo}
-use Rattle.model.specs.Row.{place, least, limit, owner, kindOf, stepOf, mixed, smoothPixel, tornPixel, lastPixel, pairPixel, ownedPixel, pixelAt, limitAt, leftRow}
+use Rattle.model.specs.Row.{line, place, least, limit, owner, kindOf, stepOf, taps1, taps2, taps3, repeated, weighted, filtered, mixed, smoothPixel, tornPixel, lastPixel, pairPixel, ownedPixel, pixelAt, limitAt, leftRow}
 use Rattle.model.specs.Views.{seen, viewRow, entryOf}
 use Rattle.model.specs.Marks.{packByte, packRow, rowHoles, holesIn}
 use Rattle.model.specs.Combined.{shared, bothShown, bothHoles, combinedOf, squareError}
@@ -40,6 +41,28 @@ packed-nine = refl
 holes-two-rows : holesIn (245 ∷ 10 ∷ []) 4 2 ≡ 4
 unfolding holesIn rowHoles rowOf sumTo
 holes-two-rows = refl
+
+-- ---- the filters: k of 1, 2 and 3 in both views, in a row where sums fall below 0 and rise above 255, and in one with both ends repeated
+
+shown : Bool → List ℕ → ℕ → List ℕ
+shown right texture d = viewRow right (line identity texture (listOf (λ i. d) (length texture))) .samples
+
+edge : List ℕ
+edge = 0 ∷ 0 ∷ 255 ∷ 255 ∷ 0 ∷ 0 ∷ []
+
+pair : List ℕ
+pair = 0 ∷ 255 ∷ []
+
+filters :
+    (shown false edge 1 ≡ 0 ∷ 48 ∷ 255 ∷ 191 ∷ 0 ∷ 0 ∷ [])
+    × (shown true edge 1 ≡ 0 ∷ 0 ∷ 191 ∷ 255 ∷ 48 ∷ 0 ∷ [])
+    × (shown false edge 2 ≡ 0 ∷ 116 ∷ 255 ∷ 116 ∷ 0 ∷ 0 ∷ [])
+    × (shown false edge 3 ≡ 0 ∷ 191 ∷ 255 ∷ 48 ∷ 0 ∷ 0 ∷ [])
+    × (shown false pair 1 ≡ 52 ∷ 255 ∷ [])
+    × (shown false pair 2 ≡ 128 ∷ 255 ∷ [])
+    × (shown true pair 3 ≡ 0 ∷ 52 ∷ [])
+unfolding shown edge pair viewRow seen leftRow limitAt pixelAt ownedPixel pairPixel lastPixel tornPixel smoothPixel mixed filtered weighted repeated taps1 taps2 taps3 stepOf kindOf owner limit least place listFrom identity
+filters = (refl, refl, refl, refl, refl, refl, refl)
 
 -- ---- spans: column 2 from depth 0 to 4 spans from the place of column 1 to the limit of column 3
 
@@ -83,5 +106,5 @@ reports :
     × (report settings (0 ∷ []) (10 ∷ 21 ∷ 30 ∷ 41 ∷ []) ≡ Difference 0 1)
     × (report settings (16 ∷ []) four ≡ Difference 0 3)
     × (report (withTotal settings 1) (0 ∷ []) four ≡ Total)
-unfolding report reportOf firstDifference firstBad sameAt sameView sameMark fresh freshView freshRow freshSample freshCombined totalOf freshTotal viewRow seen leftRow limitAt pixelAt ownedPixel pairPixel lastPixel tornPixel smoothPixel mixed stepOf kindOf owner limit least place listFrom rows rowOf sumTo packRow packByte shared bothShown bothHoles combinedOf squareError settings opening images four identity
+unfolding report reportOf firstDifference firstBad sameAt sameView sameMark fresh freshView freshRow freshSample freshCombined totalOf freshTotal viewRow seen leftRow limitAt pixelAt ownedPixel pairPixel lastPixel tornPixel smoothPixel mixed filtered weighted repeated taps1 taps2 taps3 stepOf kindOf owner limit least place listFrom rows rowOf sumTo packRow packByte shared bothShown bothHoles combinedOf squareError settings opening images four identity
 reports = (refl, refl, refl, refl)

@@ -1,15 +1,15 @@
--- Document 01, "Small rows and sessions": cases a to m, in one table.
+-- Document 01, "Small rows and sessions": cases a to m, in one table; d, e, f, k and m as document 02, card 2, has them.
 use Prim.Native.Nat.{ℕ}
 use Prim.Native.String.{String}
 use mathlib.Core.Bool.{Bool, true, false, _&&_}
 use mathlib.Core.List.{List, [], _∷_}
 use lib.Dec.{eqb}
-use lib.IntN.{ℤ, pos, negsuc}
+use lib.IntN.{ℤ, pos}
 use lib.Signed.{leZ}
 use Rattle.model.specs.declared.Settings.{Settings}
 use Rattle.model.specs.declared.Block.{Block}
 use Rattle.model.specs.Lists.{listOf}
-use Rattle.model.specs.Row.{line, pixel}
+use Rattle.model.specs.Row.{line, neg, pixel}
 use Rattle.model.specs.Views.{viewRow}
 use Rattle.model.specs.Combined.{combinedOf}
 use Rattle.model.specs.Planes.{Pictures, Depths, pictures, depths}
@@ -65,18 +65,18 @@ cases =
     row "a" false (50 ∷ []) (0 ∷ []) (50 ∷ []) (0 ∷ [])
     ∷ row "b" false (50 ∷ []) (4 ∷ []) (50 ∷ []) (1 ∷ [])
     ∷ row "c" false four (0 ∷ 0 ∷ 0 ∷ 0 ∷ []) (10 ∷ 20 ∷ 30 ∷ 40 ∷ []) (0 ∷ 0 ∷ 0 ∷ 0 ∷ [])
-    ∷ row "d" false four (2 ∷ 2 ∷ 2 ∷ 2 ∷ []) (15 ∷ 25 ∷ 35 ∷ 40 ∷ []) (0 ∷ 0 ∷ 0 ∷ 1 ∷ [])
-    ∷ row "e" true four (2 ∷ 2 ∷ 2 ∷ 2 ∷ []) (10 ∷ 15 ∷ 25 ∷ 35 ∷ []) (1 ∷ 0 ∷ 0 ∷ 0 ∷ [])
-    ∷ row "f" false four (0 ∷ 0 ∷ 4 ∷ 0 ∷ []) (10 ∷ 30 ∷ 35 ∷ 40 ∷ []) (0 ∷ 0 ∷ 0 ∷ 0 ∷ [])
+    ∷ row "d" false four (2 ∷ 2 ∷ 2 ∷ 2 ∷ []) (14 ∷ 25 ∷ 36 ∷ 40 ∷ []) (0 ∷ 0 ∷ 0 ∷ 1 ∷ [])
+    ∷ row "e" true four (2 ∷ 2 ∷ 2 ∷ 2 ∷ []) (10 ∷ 14 ∷ 25 ∷ 36 ∷ []) (1 ∷ 0 ∷ 0 ∷ 0 ∷ [])
+    ∷ row "f" false four (0 ∷ 0 ∷ 4 ∷ 0 ∷ []) (10 ∷ 30 ∷ 36 ∷ 40 ∷ []) (0 ∷ 0 ∷ 0 ∷ 0 ∷ [])
     ∷ row "g" false four (0 ∷ 0 ∷ 5 ∷ 0 ∷ []) (10 ∷ 30 ∷ 40 ∷ 40 ∷ []) (0 ∷ 0 ∷ 1 ∷ 0 ∷ [])
     ∷ mix "h" 32 0 7 7 10 21 16
     ∷ mix "i" 32 0 7 7 10 20 15
     ∷ mix "j, mixed" 32 3 8 5 10 20 15
     ∷ mix "j, left" 32 3 9 5 10 20 10
     ∷ session "total 0" [] 0
-    ∷ session "k" (GET 4 (pos 125) ∷ []) 0
+    ∷ session "k" (GET 4 (pos 136) ∷ []) 0
     ∷ session "l" (GET 5 (pos 100) ∷ []) 0
-    ∷ session "m" (SET 4 (pos 125) ∷ GET 5 (negsuc 24) ∷ SET 0 (negsuc 124) ∷ []) 0
+    ∷ session "m" (SET 4 (pos 136) ∷ GET 5 (neg 36) ∷ SET 0 (neg 136) ∷ []) 0
     ∷ []
 
 -- ---- the test

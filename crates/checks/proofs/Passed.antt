@@ -11,6 +11,7 @@ use lib.Arith.{digits-div, digits-mod}
 use borrow.Author.Tests.{lt-ltb, le-ltb}
 use Rattle.model.specs.declared.Settings.{Settings}
 use Rattle.model.specs.Lists.{sumTo}
+use Rattle.model.specs.Combined.{worst}
 use Rattle.model.specs.Planes.{Pictures, Depths, Held, area}
 use Rattle.model.specs.Fresh.{fresh}
 use Rattle.model.specs.Reports.{sameAt, firstBad, firstDifference}
@@ -33,7 +34,7 @@ rowError s p d y = sumTo (errorAt s p d y) (s .w)
 pub record Passed (s : Settings) (p : Pictures) (d : Depths) (h : Held) (y x sum : ℕ) : Type 0 where
   pub same : firstBad (testAt s p d h) (y * s .w + x) ≡ y * s .w + x
   pub sum-is : sum ≡ sumTo (rowError s p d) y + sumTo (errorAt s p d y) x
-  pub most : sum ≤ 65025 * (y * s .w + x)
+  pub most : sum ≤ worst * (y * s .w + x)
 
 -- what a walk answers
 abbrev pub found : Place → ℕ → Found
@@ -48,7 +49,7 @@ module _ (s : Settings) (p : Pictures) (d : Depths) (h : Held) where
   test-here : (y x : ℕ) → x < s .w → testAt s p d h (y * s .w + x) ≡ sameAt (s .w) h (fresh s p d) y x
   test-here y x l = rw (digits-div y l, digits-mod y l)
 
-  pub passed-next : (y x sum e : ℕ) → x < s .w → Passed s p d h y x sum → sameAt (s .w) h (fresh s p d) y x ≡ true → e ≡ errorAt s p d y x → e ≤ 65025 → Passed s p d h y (x + 1) (sum + e)
+  pub passed-next : (y x sum e : ℕ) → x < s .w → Passed s p d h y x sum → sameAt (s .w) h (fresh s p d) y x ≡ true → e ≡ errorAt s p d y x → e ≤ worst → Passed s p d h y (x + 1) (sum + e)
   unfolding sumTo
   passed-next y x sum e l a t q m =
       record {

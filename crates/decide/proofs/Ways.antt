@@ -14,6 +14,7 @@ use lib.ListN.{length, getD}
 use lib.IntN.{ℤ, pos, subℕ, _+ℤ_, natAbs}
 use Rattle.model.specs.declared.Settings.{Settings}
 use Rattle.model.specs.declared.Block.{Block}
+use Rattle.model.specs.Combined.{worst}
 use Rattle.model.specs.Planes.{Pictures, Depths, Held, area, tableOf, withTotal}
 use Rattle.model.specs.Views.{isRight}
 use Rattle.model.specs.Fresh.{freshTotal}
@@ -110,13 +111,13 @@ module _ (s : Settings) (p : Pictures) (d : Depths) (h : Held) (v : ℕ) (b : Bl
           kept = λ _. t;
         }
 
-    pub decided-late : {old new : ℕ} → earlyNumber s p d h v b (length c) ≡ 0 → BytePictures p → Tried s p d h v b c old new → Judged (s .total) old new (65025 * area s) r → Decided s p d h v b c r
+    pub decided-late : {old new : ℕ} → earlyNumber s p d h v b (length c) ≡ 0 → BytePictures p → Tried s p d h v b c old new → Judged (s .total) old new (worst * area s) r → Decided s p d h v b c r
     unfolding inRange changeOf
     decided-late {old} {new} e byte t j =
         let f = passed e in
         let is : ℕ = freshTotal s p (written s v b c d) in
         let was : ℕ = freshTotal s p d in
-        let most : is ≤ 65025 * area s = total-most s p (written s v b c d) (sized-written s v b c d (f .common .depths)) byte (f .common .share) in
+        let most : is ≤ worst * area s = total-most s p (written s v b c d) (sized-written s v b c d (f .common .depths)) byte (f .common .share) in
         record {
           answer = record {
             found = subℕ new old;

@@ -6,6 +6,7 @@ use lib.IntN.{ℤ, pos, subℕ, _+ℤ_, natAbs}
 use Rattle.model.specs.declared.Settings.{Settings}
 use Rattle.model.specs.declared.Block.{Block}
 use Rattle.model.specs.declared.Trial.{Trial}
+use Rattle.model.specs.Combined.{worst}
 use Rattle.model.specs.Planes as planes
 use Rattle.model.specs.Planes.{Pictures, Depths, Held, held}
 use Rattle.model.specs.Fresh.{fresh, freshTotal}
@@ -24,8 +25,8 @@ heldOf ls lf ll lm rs rf rl rm combined = held (planes.view ls lf ll lm) (planes
 
 -- The two sums of a trial. Where the planes hold the fresh drawing, they differ by the change of the total.
 pub record Tried (s : Settings) (p : Pictures) (d : Depths) (h : Held) (v : ℕ) (b : Block) (c : List ℕ) (old new : ℕ) : Type 0 where
-  pub old-most : old ≤ 65025 * 16777216
-  pub new-most : new ≤ 65025 * 16777216
+  pub old-most : old ≤ worst * 16777216
+  pub new-most : new ≤ worst * 16777216
   pub change : h ≡ fresh s p d → freshTotal s p (written s v b c d) + old ≡ freshTotal s p d + new
 
 -- 8 judged by two such sums: the total moved by their difference, or as it was.

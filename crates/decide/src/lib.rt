@@ -8,6 +8,7 @@ ghost use mathlib.Core.Path.{_≡_};
 ghost use Prim.Native.Nat.{_*_, _≤_};
 ghost use lib.ListN.{length};
 ghost use lib.IntN.{pos};
+ghost use Rattle.model.specs.Combined.{worst};
 ghost use Rattle.model.specs.Planes.{pictures, depths};
 ghost use Rattle.model.specs.Refusals.{earlyNumber};
 ghost use Rattle.decide.specs.Decided.{settingsOf, heldOf, Tried, Judged, Decided};
@@ -33,14 +34,14 @@ fn refused(refusal: Refusal, total: u64) -> Decision
 // The highest total: 65,025 for each position.
 pub fn most_total(w: u32, h: u32) -> u64
     requires { ⌜ (w ≤ 4096) × (h ≤ 4096) ⌝ }
-    ensures { λ r. ⌜ (r ≡ 65025 * (w * h)) × (r ≤ 65025 * 16777216) ⌝ }
+    ensures { λ r. ⌜ (r ≡ worst * (w * h)) × (r ≤ worst * 16777216) ⌝ }
 {
     65025 * ((w as u64) * (h as u64))
 }
 
 // 8 where the total with the change is out of range, else the change.
 pub fn judge(total: u64, old: u64, new: u64, most: u64) -> Decision
-    requires { ⌜ (old ≤ 65025 * 16777216) × ((new ≤ 65025 * 16777216) × (most ≤ 65025 * 16777216)) ⌝ }
+    requires { ⌜ (old ≤ worst * 16777216) × ((new ≤ worst * 16777216) × (most ≤ worst * 16777216)) ⌝ }
     ensures { λ r. ⌜ Judged total old new most r ⌝ }
 {
     if !signed::in_range(total, old, new, most) {

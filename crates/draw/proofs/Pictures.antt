@@ -14,7 +14,7 @@ use Rattle.model.specs.declared.Settings.{Settings}
 use Rattle.model.specs.declared.Pixel.{Pixel}
 use Rattle.model.specs.Lists.{listOf, rowOf, sumTo}
 use Rattle.model.specs.Marks.{markBytes}
-use Rattle.model.specs.Combined.{combinedOf, squareError}
+use Rattle.model.specs.Combined.{worst, combinedOf, squareError}
 use Rattle.model.specs.Planes.{Pictures, Depths, area}
 use Rattle.model.specs.Fresh.{freshRow, freshView, shownAt, freshSample, freshCombined, freshTotal}
 use Rattle.model.proofs.Choice.{lt-or-le}
@@ -63,8 +63,8 @@ row-combined share tolerance w y s₀ f₀ m₀ s₁ f₁ m₁ c xs fits long e 
 -- the sum of the squared errors of row y, from its parts
 pub row-error :
     (w y : ℕ) (c reference : List ℕ) (r : ℕ) → y * w + w ≤ length c →
-    (r ≡ sumTo (λ i. squareError (getD (part c w y) i 0) (getD (part reference w y) i 0)) (length (part c w y))) × (r ≤ 65025 * length (part c w y)) →
-    (r ≡ rowError w (rowOf c w y) reference y) × (r ≤ 65025 * w)
+    (r ≡ sumTo (λ i. squareError (getD (part c w y) i 0) (getD (part reference w y) i 0)) (length (part c w y))) × (r ≤ worst * length (part c w y)) →
+    (r ≡ rowError w (rowOf c w y) reference y) × (r ≤ worst * w)
 unfolding rowError
 row-error w y c reference r fits h =
     let n : length (part c w y) ≡ w = part-length c (y * w) w fits in
@@ -79,12 +79,12 @@ module _ {share tolerance w : ℕ} {left right : ℕ → ℕ → Pixel} {referen
 
   pub picture-next :
       {y : ℕ} {c c′ : List ℕ} {total r x : ℕ} → PictureCombined share tolerance w y left right reference c total →
-      RowCombined share tolerance w y left right c c′ → (r ≡ rowError w (rowOf c′ w y) reference y) × (r ≤ 65025 * w) → x ≡ r →
+      RowCombined share tolerance w y left right c c′ → (r ≡ rowError w (rowOf c′ w y) reference y) × (r ≤ worst * w) → x ≡ r →
       PictureCombined share tolerance w (y + 1) left right reference c′ (total + x)
   picture-next {y} {c} {c′} {total} {r} {x} p q f e =
       let error : r ≡ rowError w (combinedRow share tolerance w left right y) reference y = f .0 ∙ ap (λ (l : List ℕ). rowError w l reference y) (q .row-is) in
       let n = sum-next (λ y. rowError w (combinedRow share tolerance w left right y) reference y) y in
-      let m : 65025 * w * (y + 1) ≡ 65025 * w * y + 65025 * w = rw (add-one y) (mul-suc (65025 * w) y) in
+      let m : worst * w * (y + 1) ≡ worst * w * y + worst * w = rw (add-one y) (mul-suc (worst * w) y) in
       record {
         rows-are = λ k h.
             ⊎-elim (λ l. q .others k (λ i. omega arith) ∙ p .rows-are k l)
@@ -94,10 +94,10 @@ module _ {share tolerance w : ℕ} {left right : ℕ → ℕ → Pixel} {referen
       }
 
 -- a total and one row more stay far below 64 bits
-pub picture-most : {w y total x r : ℕ} → total ≤ 65025 * w * y → x ≡ r → r ≤ 65025 * w → w ≤ 4096 → y ≤ 4096 → total + x < 2 ^ 64
+pub picture-most : {w y total x r : ℕ} → total ≤ worst * w * y → x ≡ r → r ≤ worst * w → w ≤ 4096 → y ≤ 4096 → total + x < 2 ^ 64
 picture-most {w} {y} h e k hw hy =
-    let a : 65025 * w ≤ 266342400 = omega arith in
-    let b : 65025 * w * y ≤ 266342400 * 4096 = mul-le-mul a hy in
+    let a : worst * w ≤ 266342400 = omega arith in
+    let b : worst * w * y ≤ 266342400 * 4096 = mul-le-mul a hy in
     omega arith
 
 -- ---- the fresh drawing

@@ -7,7 +7,7 @@ use lib.ListN.{length, getD}
 use Rattle.model.specs.declared.Pixel.{Pixel}
 use Rattle.model.specs.Lists.{rowOf, sumTo}
 use Rattle.model.specs.Marks.{markBytes}
-use Rattle.model.specs.Combined.{squareError}
+use Rattle.model.specs.Combined.{worst, squareError}
 use Rattle.marks.specs.Puts.{heldPixel}
 use Rattle.blend.specs.Blend.{combinedPart}
 
@@ -44,4 +44,4 @@ pub record RowCombined (share tolerance w y : ℕ) (left right : ℕ → ℕ →
 pub record PictureCombined (share tolerance w n : ℕ) (left right : ℕ → ℕ → Pixel) (reference c : List ℕ) (r : ℕ) : Type 0 where
   pub rows-are : (k : ℕ) → k < n → rowOf c w k ≡ combinedRow share tolerance w left right k
   pub total : r ≡ sumTo (λ y. rowError w (combinedRow share tolerance w left right y) reference y) n
-  pub most : r ≤ 65025 * w * n
+  pub most : r ≤ worst * w * n

@@ -3,6 +3,7 @@ ghost use mathlib.Core.Path.{_≡_};
 ghost use Prim.Native.Nat.{_+_, _*_, _≤_, _<_};
 ghost use lib.ListN.{length};
 ghost use Rattle.model.specs.Lists.{rowOf};
+ghost use Rattle.model.specs.Combined.{worst};
 ghost use Rattle.model.specs.Planes.{view};
 ghost use Rattle.sums.specs.Squares.{Squares};
 ghost use Rattle.draw.specs.Drawn.{Table, PlanesIn, PlanesOf, RowDrawn, ViewDrawn};
@@ -128,7 +129,7 @@ fn blend_row(
 fn error_row(squares: &[u16; 256], w: usize, y: usize, combined: &[u8], reference: &[u8]) -> u32
     requires { ⌜ (Squares (now squares)) × (w ≤ 4096) ⌝ }
     requires { ⌜ (y * w + w ≤ length (now combined)) × (y * w + w ≤ length (now reference)) ⌝ }
-    ensures { λ r. ⌜ (r ≡ rowError w (rowOf (now (combined .entry)) w y) (now (reference .entry)) y) × (r ≤ 65025 * w) ⌝ }
+    ensures { λ r. ⌜ (r ≡ rowError w (rowOf (now (combined .entry)) w y) (now (reference .entry)) y) × (r ≤ worst * w) ⌝ }
 {
     let from = y * w;
     let to = from + w;

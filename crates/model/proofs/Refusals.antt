@@ -18,6 +18,7 @@ use borrow.Author.Tests.{le-leb, leb-true, eq-eqb, eqb-true, eqb-false}
 use Rattle.model.specs.declared.Settings.{Settings}
 use Rattle.model.specs.declared.Block.{Block}
 use Rattle.model.specs.Marks.{markBytes}
+use Rattle.model.specs.Combined.{worst}
 use Rattle.model.specs.Planes.{Pictures, Depths, View, Held, area, withTotal}
 use Rattle.model.specs.Refusals.{unless, sideOk, sizeOk, picturesSized, depthsSized, viewSized, heldSized, planesSized, tableOk, tablesOk, shareOk, blockOk, viewOk, candidateOk, within, inRange, commonThen, ownThen, earlyNumber, callNumber}
 use Rattle.model.proofs.Choice.{bool-cases, and-true, and-left, and-right}
@@ -348,8 +349,8 @@ module _ (s : Settings) (p : Pictures) (d : Depths) (h : Held) where
 pub total-change : (old new : ℕ) → pos old +ℤ (pos new -ℤ pos old) ≡ pos new
 total-change old new = +ℤ-comm (pos old) (pos new -ℤ pos old) ∙ -ℤ-+ℤ-cancel (pos new) (pos old)
 
-pub in-range-sound : (s : Settings) (old new : ℕ) → s .total ≡ old → new ≤ 65025 * area s → inRange s (pos new -ℤ pos old) ≡ true
+pub in-range-sound : (s : Settings) (old new : ℕ) → s .total ≡ old → new ≤ worst * area s → inRange s (pos new -ℤ pos old) ≡ true
 unfolding inRange
 in-range-sound s old new e le =
-    ap (λ (x : ℤ). within x (65025 * area s)) (ap (λ (t : ℕ). pos t +ℤ (pos new -ℤ pos old)) e ∙ total-change old new)
-    ∙ le-leb new (65025 * area s) le
+    ap (λ (x : ℤ). within x (worst * area s)) (ap (λ (t : ℕ). pos t +ℤ (pos new -ℤ pos old)) e ∙ total-change old new)
+    ∙ le-leb new (worst * area s) le

@@ -103,7 +103,8 @@ edited-moved t d e a b h =
       beyond = λ c k. rw (h .beyond c k);
     }
 
--- a column apart from the edit shows the same wherever it owns
+-- A column apart from the edit shows the same wherever it owns. A filter reads samples of eight columns, some of which the edit may move, but of depths those of
+-- the pair alone: the samples s are the same before and after.
 pub apart-same : (t s d e : List ℕ) (a b c x : ℕ) → EditedRow d e a b → Apart a b c → ownedPixel (line t s e) c x ≡ ownedPixel (line t s d) c x
 unfolding ownedPixel lastPixel pairPixel smoothPixel tornPixel
 apart-same t s d e a b c x h o =

@@ -2,32 +2,31 @@
 --     errorAt, total-rows     the total is the sum over rows and columns of the squared errors
 --     byte-pixel, byte-sample a drawing of byte pictures shows bytes
 --     total-most              so a total is at most 65,025 × w × h
-use Prim.Native.Nat.{ℕ, _+_, _-_, _*_, _/_, _<_, _≤_}
-use mathlib.Core.Path.{_≡_, refl, sym, ap, subst, _∙_}
+use Prim.Native.Nat.{ℕ, _+_, _-_, _*_, _<_, _≤_}
+use mathlib.Core.Path.{_≡_, sym, ap, subst, _∙_}
 use mathlib.Core.Bool.{Bool, true, false}
 use mathlib.Core.Logic.{⊎-elim}
 use mathlib.Core.List.{List}
 use native.Mathlib.Omega.{arith}
-use native.Mathlib.Nat.{mul-comm, mul-le-mul, mul-le-mul-right, mul-assoc, div-lt-iff-lt-mul}
+use native.Mathlib.Nat.{mul-comm, mul-le-mul, mul-le-mul-right, mul-assoc}
 use lib.Dec.{leb, ltb, eqb}
 use lib.ListN.{length, getD, drop, length-take, List·getD-eq-default}
-use lib.IntN.{subℕ}
-use borrow.Author.Tests.{leb-false, lt-ltb, le-ltb}
+use lib.IntN.{ℤ, pos, negsuc, subℕ, _+ℤ_}
+use lib.Signed.{shrZ}
 use Rattle.model.specs.declared.Settings.{Settings}
 use Rattle.model.specs.declared.Kind.{Kind}
 use Rattle.model.specs.declared.Kind.the-variants.{Hidden, Smooth, Torn}
 use Rattle.model.specs.declared.Pixel.{Pixel}
 use Rattle.model.specs.Lists.{rowOf, sumTo}
-use Rattle.model.specs.Row.{Line, width, placeIn, owner, quarter, kindOf, stepOf, mixed, byKind, pixelAt, ownedPixel, pairPixel, smoothPixel, tornPixel, lastPixel}
+use Rattle.model.specs.Row.{Line, width, placeIn, owner, quarter, kindOf, greatest, taps1, taps2, taps3, weighted, clipped, filtered, mixed, byKind, pixelAt, ownedPixel, pairPixel, smoothPixel, tornPixel, lastPixel}
 use Rattle.model.specs.Views.{seen, entryOf}
-use Rattle.model.specs.Combined.{apart, shared, bothShown, bothHoles, combinedOf, squareError}
+use Rattle.model.specs.Combined.{worst, apart, shared, bothShown, bothHoles, combinedOf, squareError}
 use Rattle.model.specs.Planes.{Pictures, Depths, area, textureOf}
 use Rattle.model.specs.Fresh.{lineOf, freshRow, shownAt, freshSample, freshCombined, totalOf, freshTotal}
 use Rattle.model.proofs.Choice.{bool-cases, lt-or-le}
 use Rattle.model.proofs.Lists.{getD-listOf, getD-row}
 use Rattle.model.proofs.Sums.{sum-same, sum-rows, sum-most}
-use Rattle.model.proofs.Owners.{Owns, one-owner}
-use Rattle.model.proofs.Views.{seenLine, length-seen, getD-seen, entry-within, shown-view}
+use Rattle.model.proofs.Views.{seenLine, length-seen, getD-seen, shown-view}
 use Rattle.model.proofs.Fresh.{DepthsSized, wide, row-fresh-combined}
 
 -- the squared error at column x of row y
@@ -47,7 +46,7 @@ total-rows s p d =
 -- ---- bytes
 
 pub record Bytes (l : List ℕ) : Type 0 where
-  pub at : (i : ℕ) → getD l i 0 ≤ 255
+  pub at : (i : ℕ) → getD l i 0 ≤ greatest
 
 row-most : (l : List ℕ) (w y : ℕ) → length (rowOf l w y) ≤ w
 unfolding rowOf
@@ -65,64 +64,53 @@ bytes-seen r l h =
     record { at = λ i. ⊎-elim (λ k. rw (getD-seen 0 r l i k) (h .at (entryOf r (length l) i))) (λ k. rw (List·getD-eq-default (seen r l) 0 {n = i} (rw (length-seen r l) k)) (omega arith)) (lt-or-le i (length l)) }
 
 -- a weighted mean of bytes, rounded, is a byte
-mean : (a b n k : ℕ) → a ≤ 255 → b ≤ 255 → k ≤ n → a * (n - k) + b * k ≤ 255 * n
+mean : (a b n k : ℕ) → a ≤ greatest → b ≤ greatest → k ≤ n → a * (n - k) + b * k ≤ greatest * n
 mean a b n k ha hb hk =
-    let e : 255 * n ≡ 255 * (n - k) + 255 * k = let q : (n - k) + k ≡ n = omega arith in sym (ap (λ (m : ℕ). 255 * m) q) ∙ (omega arith) in
+    let e : greatest * n ≡ greatest * (n - k) + greatest * k = let q : (n - k) + k ≡ n = omega arith in sym (ap (λ (m : ℕ). greatest * m) q) ∙ (omega arith) in
     omega (arith, mul-le-mul-right (n - k) ha, mul-le-mul-right k hb)
 
--- at most 4 quarters of the way
-step-most : (t gap : ℕ) → t < gap → stepOf t gap ≤ 4
-unfolding stepOf
-step-most t gap h =
-    let p : 0 < 2 * gap = omega arith in
-    let l : (8 * t + gap) / (2 * gap) < 5 = div-lt-iff-lt-mul p .1 (omega arith) in
-    omega arith
-
-byte-mixed : (s : List ℕ) (c k : ℕ) → Bytes s → k ≤ 4 → mixed s c k ≤ 255
-unfolding mixed
-byte-mixed s c k h g = omega (arith, mean (getD s c 0) (getD s (c + 1) 0) 4 k (h .at c) (h .at (c + 1)) g)
-
-smooth-gap : (a b : ℕ) → kindOf (subℕ a b) ≡ Smooth → b < a
-unfolding kindOf
-smooth-gap a b e =
-    ⊎-elim (λ h. h)
-    (λ h. ⊎-elim
-    (λ k. let n : kindOf (subℕ a b) ≡ Hidden = rw (lt-ltb a b k) in clash (sym n ∙ e))
-    (λ k. let z : a - b ≡ 0 = omega arith in let n : kindOf (subℕ a b) ≡ Hidden = rw (le-ltb a b k, z) in clash (sym n ∙ e))
-    (lt-or-le a b))
-    (lt-or-le b a)
+-- the filter holds its result to a byte; k of 0 and 4 are samples
+byte-filtered : (taps : List ℤ) (s : List ℕ) (c : ℕ) → filtered taps s c ≤ greatest
+unfolding filtered
+byte-filtered taps s c = byte-clipped (shrZ (weighted taps s c +ℤ pos 32) 64)
   where
-    clash : {A : Type 0} → Hidden ≡ Smooth → A
-    clash q = let z : _≡_ {A = ℕ} 0 1 = cc in absurd (omega arith)
+    byte-clipped : (z : ℤ) → clipped z ≤ greatest
+    byte-clipped (pos n) = omega arith
+    byte-clipped (negsuc n) = omega arith
 
-byte-kind : (k : Kind) (h s t : Pixel) → h .sample ≤ 255 → (k ≡ Smooth → s .sample ≤ 255) → t .sample ≤ 255 → byKind k h s t .sample ≤ 255
+byte-mixed : (s : List ℕ) (c k : ℕ) → Bytes s → mixed s c k ≤ greatest
+unfolding mixed
+byte-mixed s c k h =
+    bool-cases (eqb k 1) (λ e. rw e (byte-filtered taps1 s c))
+    (λ e. rw e (bool-cases (eqb k 2) (λ e. rw e (byte-filtered taps2 s c))
+    (λ e. rw e (bool-cases (eqb k 3) (λ e. rw e (byte-filtered taps3 s c))
+    (λ e. rw e (bool-cases (eqb k 0) (λ e. rw e (h .at c)) (λ e. rw e (h .at (c + 1)))))))))
+
+byte-kind : (k : Kind) (h s t : Pixel) → h .sample ≤ greatest → s .sample ≤ greatest → t .sample ≤ greatest → byKind k h s t .sample ≤ greatest
 byte-kind Hidden h s t a b c = a
-byte-kind Smooth h s t a b c = b refl
+byte-kind Smooth h s t a b c = b
 byte-kind Torn h s t a b c = c
 
 -- what a column shows where it owns
-pub byte-owned : (l : Line) (x c : ℕ) → Bytes (l .texture) → Owns (placeIn l) (width l) x c → ownedPixel l c x .sample ≤ 255
+pub byte-owned : (l : Line) (x c : ℕ) → Bytes (l .texture) → ownedPixel l c x .sample ≤ greatest
 unfolding ownedPixel pairPixel smoothPixel tornPixel lastPixel
-byte-owned l x c h o =
+byte-owned l x c h =
     bool-cases (leb (width l) (c + 1))
     (λ e. rw e (bool-cases (leb (x - placeIn l c) 1) (λ q. rw q (h .at c)) (λ q. rw q (h .at c))))
     (λ e. rw e
     (byte-kind (kindOf (subℕ (placeIn l (c + 1)) (placeIn l c))) _ (smoothPixel l c (x - placeIn l c) (placeIn l (c + 1) - placeIn l c)) (tornPixel l c (x - placeIn l c)) (h .at c)
-    (λ q. byte-mixed (l .texture) c _ h (step-most (x - placeIn l c) (placeIn l (c + 1) - placeIn l c) (between (smooth-gap _ _ q) (o .after (c + 1) (omega arith) (leb-false _ _ e)))))
+    (byte-mixed (l .texture) c _ h)
     (bool-cases (leb (x - placeIn l c) 1) (λ q. rw q (h .at c)) (λ q. rw q (h .at (c + 1))))))
-  where
-    between : placeIn l c < placeIn l (c + 1) → x < placeIn l (c + 1) → x - placeIn l c < placeIn l (c + 1) - placeIn l c
-    between u v = omega (arith, o .here)
 
-pub byte-pixel : (l : Line) (p : ℕ) → Bytes (l .texture) → p < width l → pixelAt l p .sample ≤ 255
+pub byte-pixel : (l : Line) (p : ℕ) → Bytes (l .texture) → pixelAt l p .sample ≤ greatest
 unfolding pixelAt
-byte-pixel l p h k = byte-owned l (quarter p) (owner (placeIn l) (quarter p) (width l)) h (one-owner l p k)
+byte-pixel l p h = byte-owned l (quarter p) (owner (placeIn l) (quarter p) (width l)) h
 
-pub byte-shared : (share a b : ℕ) → share ≤ 64 → a ≤ 255 → b ≤ 255 → shared share a b ≤ 255
+pub byte-shared : (share a b : ℕ) → share ≤ 64 → a ≤ greatest → b ≤ greatest → shared share a b ≤ greatest
 unfolding shared
 byte-shared share a b h ha hb = omega (arith, mean a b 64 share ha hb h)
 
-pub byte-combined : (share tolerance : ℕ) (l r : Pixel) → share ≤ 64 → l .sample ≤ 255 → r .sample ≤ 255 → combinedOf share tolerance l r ≤ 255
+pub byte-combined : (share tolerance : ℕ) (l r : Pixel) → share ≤ 64 → l .sample ≤ greatest → r .sample ≤ greatest → combinedOf share tolerance l r ≤ greatest
 unfolding combinedOf bothShown bothHoles
 byte-combined share tolerance l r h a b =
     bool-cases (eqb (l .mark) 0)
@@ -133,10 +121,10 @@ byte-combined share tolerance l r h a b =
     (λ e. rw e (bool-cases (eqb (r .mark) 0) (λ q. rw q b)
     (λ q. rw q (bool-cases (leb (l .front) (r .front)) (λ u. rw u a) (λ u. rw u b)))))
 
-pub square-most : (a b : ℕ) → a ≤ 255 → b ≤ 255 → squareError a b ≤ 65025
+pub square-most : (a b : ℕ) → a ≤ greatest → b ≤ greatest → squareError a b ≤ worst
 unfolding squareError
 square-most a b ha hb =
-    let h : apart a b ≤ 255 = omega arith in
+    let h : apart a b ≤ greatest = omega arith in
     mul-le-mul h h
 
 -- pictures of bytes
@@ -150,24 +138,23 @@ bytes-texture p h true = h .right
 bytes-texture p h false = h .left
 
 module _ (s : Settings) (p : Pictures) (d : Depths) (sized : DepthsSized s d) (bytes : BytePictures p) (share : s .share ≤ 64) where
-  byte-shown : (r : Bool) (y x : ℕ) → y < s .h → x < s .w → shownAt (freshRow s p d r y) x .sample ≤ 255
+  byte-shown : (r : Bool) (y x : ℕ) → y < s .h → x < s .w → shownAt (freshRow s p d r y) x .sample ≤ greatest
   unfolding freshRow
   byte-shown r y x h k =
       let l : Line = lineOf s p d r y in
       let n : width l ≡ s .w = wide s p d sized r y h in
       let xw : x < width l = rw n k in
-      let m : entryOf r (width l) x < width (seenLine r l) = rw (length-seen r (l .depths)) (entry-within r (width l) x xw) in
-      subst (λ (q : Pixel). q .sample ≤ 255) (sym (shown-view r l x xw))
-      (byte-pixel (seenLine r l) (entryOf r (width l) x) (bytes-seen r (l .texture) (bytes-row (textureOf p r) (s .w) y (bytes-texture p bytes r))) m)
+      subst (λ (q : Pixel). q .sample ≤ greatest) (sym (shown-view r l x xw))
+      (byte-pixel (seenLine r l) (entryOf r (width l) x) (bytes-seen r (l .texture) (bytes-row (textureOf p r) (s .w) y (bytes-texture p bytes r))))
 
-  pub byte-sample : (y x : ℕ) → y < s .h → x < s .w → freshSample s p d y x ≤ 255
+  pub byte-sample : (y x : ℕ) → y < s .h → x < s .w → freshSample s p d y x ≤ greatest
   unfolding freshSample
   byte-sample y x h k = byte-combined (s .share) (s .tolerance) _ _ share (byte-shown false y x h k) (byte-shown true y x h k)
 
-  pub total-most : freshTotal s p d ≤ 65025 * area s
+  pub total-most : freshTotal s p d ≤ worst * area s
   unfolding errorAt
   total-most =
-      let row : (y : ℕ) → y < s .h → sumTo (errorAt s p d y) (s .w) ≤ 65025 * s .w = λ y h.
-      sum-most (errorAt s p d y) 65025 (s .w) (λ x k. square-most _ _ (byte-sample y x h k) (bytes .reference .at (y * s .w + x))) in
-      let all = sum-most (λ y. sumTo (errorAt s p d y) (s .w)) (65025 * s .w) (s .h) row in
-      rw (total-rows s p d) (omega (arith, all, mul-assoc 65025 (s .w) (s .h)))
+      let row : (y : ℕ) → y < s .h → sumTo (errorAt s p d y) (s .w) ≤ worst * s .w = λ y h.
+      sum-most (errorAt s p d y) worst (s .w) (λ x k. square-most _ _ (byte-sample y x h k) (bytes .reference .at (y * s .w + x))) in
+      let all = sum-most (λ y. sumTo (errorAt s p d y) (s .w)) (worst * s .w) (s .h) row in
+      rw (total-rows s p d) (omega (arith, all, mul-assoc worst (s .w) (s .h)))

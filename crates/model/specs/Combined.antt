@@ -3,6 +3,7 @@ use Prim.Native.Nat.{ℕ, _+_, _-_, _*_, _/_}
 use mathlib.Core.Bool.{cond}
 use lib.Dec.{leb, ltb, eqb}
 use Rattle.model.specs.declared.Pixel.{Pixel}
+use Rattle.model.specs.Row.{greatest}
 
 -- how far two numbers differ
 abbrev pub apart : ℕ → ℕ → ℕ
@@ -27,6 +28,10 @@ unfoldable pub combinedOf : ℕ → ℕ → Pixel → Pixel → ℕ
 combinedOf share tolerance l r =
     cond (eqb (l .mark) 0) (cond (eqb (r .mark) 0) (bothShown share tolerance l r) (l .sample))
     (cond (eqb (r .mark) 0) (r .sample) (bothHoles l r))
+
+-- the greatest squared error of a sample
+abbrev pub worst : ℕ
+worst = greatest * greatest
 
 -- (combined − reference)²
 unfoldable pub squareError : ℕ → ℕ → ℕ

@@ -12,6 +12,7 @@ use Rattle.model.specs.declared.Refusal.the-variants.{None, Size, Plane,
 use Rattle.model.specs.declared.Report.{Report}
 use Rattle.model.specs.declared.Count.{Count}
 use Rattle.model.specs.Marks.{markBytes}
+use Rattle.model.specs.Combined.{worst}
 use Rattle.model.specs.Planes as planes
 use Rattle.model.specs.Planes.{Pictures, Depths, Held, Strip, area}
 
@@ -99,7 +100,7 @@ within (pos n) most = leb n most
 within (negsuc n) most = false
 
 unfoldable pub inRange : Settings → ℤ → Bool
-inRange s change = within (pos (s .total) +ℤ change) (65025 * area s)
+inRange s change = within (pos (s .total) +ℤ change) (worst * area s)
 
 -- 1, 2, 3, 4, then the rest of the call's list
 unfoldable pub commonThen : Settings → Pictures → Depths → Held → ℕ → ℕ

@@ -1,4 +1,4 @@
--- Document 01, "One row of the left view".
+-- Document 01, "One row of the left view", with the filter of document 02, card 2.
 --
 -- A place, 4 × c − table[d] in quarters, may be as low as −1,023. Here every number of quarters is kept as a natural number,
 -- raised by 1,024, and `signed` takes that away again. The laws of proofs/Signs show that nothing is lost by it:
@@ -8,11 +8,11 @@
 --     signed-gap       and differ by as much
 use Prim.Native.Nat.{ℕ, zero, suc, _+_, _-_, _*_, _/_, min}
 use mathlib.Core.Bool.{cond}
-use mathlib.Core.List.{List}
+use mathlib.Core.List.{List, [], _∷_}
 use lib.ListN.{length, getD}
-use lib.Dec.{leb}
-use lib.IntN.{ℤ, pos, subℕ}
-use lib.Signed.{ltZ}
+use lib.Dec.{leb, eqb}
+use lib.IntN.{ℤ, pos, negsuc, negℤ, subℕ, _+ℤ_, _*ℤ_}
+use lib.Signed.{ltZ, shrZ}
 use Rattle.model.specs.declared.Kind.{Kind}
 use Rattle.model.specs.declared.Kind.the-variants.{Hidden, Smooth, Torn}
 use Rattle.model.specs.declared.Pixel.{Pixel}
@@ -71,9 +71,51 @@ kindOf gap = cond (ltZ gap (pos 1)) Hidden (cond (ltZ gap (pos 9)) Smooth Torn)
 unfoldable pub stepOf : ℕ → ℕ → ℕ
 stepOf t gap = (8 * t + gap) / (2 * gap)
 
--- (s[c] × (4 − k) + s[c + 1] × k + 2) div 4
+-- ---- Card 2: quarter positions by the HEVC filter
+
+-- the greatest sample
+abbrev pub greatest : ℕ
+greatest = 255
+
+-- −n
+abbrev pub neg : ℕ → ℤ
+neg n = negℤ (pos n)
+
+-- the H.265 luma filters for k of 1, 2, 3: the taps of columns c − 3 to c + 4
+unfoldable pub taps1 : List ℤ
+taps1 = neg 1 ∷ pos 4 ∷ neg 10 ∷ pos 58 ∷ pos 17 ∷ neg 5 ∷ pos 1 ∷ pos 0 ∷ []
+
+unfoldable pub taps2 : List ℤ
+taps2 = neg 1 ∷ pos 4 ∷ neg 11 ∷ pos 40 ∷ pos 40 ∷ neg 11 ∷ pos 4 ∷ neg 1 ∷ []
+
+unfoldable pub taps3 : List ℤ
+taps3 = pos 0 ∷ pos 1 ∷ neg 5 ∷ pos 17 ∷ pos 58 ∷ neg 10 ∷ pos 4 ∷ neg 1 ∷ []
+
+-- The sample of column i − 3, ends repeated: below column 0 the naturals' difference is 0, past the last column the lesser is the last.
+unfoldable pub repeated : List ℕ → ℕ → ℕ
+repeated s i = getD s (min (i - 3) (length s - 1)) 0
+
+-- taps times samples from column i − 3 on, added up
+unfoldable pub weighted : List ℤ → List ℕ → ℕ → ℤ
+weighted [] s i = pos 0
+weighted (t ∷ ts) s i = t *ℤ pos (repeated s i) +ℤ weighted ts s (suc i)
+
+-- held to 0 to 255
+abbrev pub clipped : ℤ → ℕ
+clipped (pos n) = min n greatest
+clipped (negsuc n) = 0
+
+-- The sum from column c − 3 on, plus 32, divided by 64 rounding down (`shrZ`), held to 0 to 255.
+unfoldable pub filtered : List ℤ → List ℕ → ℕ → ℕ
+filtered taps s c = clipped (shrZ (weighted taps s c +ℤ pos 32) 64)
+
+-- k quarters of the way from column c to the next: k of 1, 2, 3 use the filters, k of 0 and 4 stay plain samples.
 unfoldable pub mixed : List ℕ → ℕ → ℕ → ℕ
-mixed s c k = (getD s c 0 * (4 - k) + getD s (c + 1) 0 * k + 2) / 4
+mixed s c k =
+    cond (eqb k 1) (filtered taps1 s c)
+    (cond (eqb k 2) (filtered taps2 s c)
+    (cond (eqb k 3) (filtered taps3 s c)
+    (cond (eqb k 0) (getD s c 0) (getD s (c + 1) 0))))
 
 abbrev pub pixel : ℕ → ℕ → ℕ → Pixel
 pixel sample mark front = record { sample = sample; mark = mark; front = front }

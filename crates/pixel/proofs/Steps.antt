@@ -1,9 +1,9 @@
--- The mixing step by counting, and the bound of a mixed sample.
-use Prim.Native.Nat.{ℕ, _+_, _-_, _*_, _<_, _≤_}
+-- The step k by counting.
+use Prim.Native.Nat.{ℕ, _+_, _*_, _<_, _≤_}
 use mathlib.Core.Path.{_≡_, sym}
 use mathlib.Core.Logic.{⊎-elim}
 use native.Mathlib.Omega.{arith}
-use native.Mathlib.Nat.{mul-le-mul-right, mul-add, div-eq-of-lt-le}
+use native.Mathlib.Nat.{div-eq-of-lt-le}
 use borrow.Author.Tests.{le-leb, lt-leb}
 use Rattle.model.specs.Row.{stepOf}
 use Rattle.model.proofs.Choice.{lt-or-le}
@@ -41,11 +41,3 @@ step-count t gap h =
 -- with a gap of 4 it is t
 pub step-even : (t gap : ℕ) → gap ≡ 4 → t ≡ stepOf t gap
 step-even t gap e = rw e (sym (step-is t 4 t (omega arith) (omega arith)))
-
--- a weighted mean of two samples is at most the greater of them
-pub weigh : (top a b k : ℕ) → a ≤ top → b ≤ top → k ≤ 4 → a * (4 - k) + b * k ≤ top * 4
-weigh top a b k h g l =
-    let e : top * (4 - k + k) ≡ top * (4 - k) + top * k = mul-add top (4 - k) k in
-    let n : 4 - k + k ≡ 4 = omega arith in
-    let e′ : top * 4 ≡ top * (4 - k) + top * k = rw n at e in
-    omega (arith, mul-le-mul-right (4 - k) h, mul-le-mul-right k g)

@@ -55,15 +55,17 @@ fn sample_after(right: bool, texture: &[u8], c: usize, e: usize) -> u8
     texture[after]
 }
 
-// The sample k quarters of the way from column c, whose entry is e, to the next.
+// The sample k quarters of the way from column c, whose entry is e, to the next. The right view reads the same filters backwards.
 fn mix(right: bool, texture: &[u8], c: usize, e: usize, k: u32) -> u8
-    requires { ⌜ k ≤ 4 ⌝ }
+    requires { ⌜ (k ≤ 4) × (length (now texture) ≤ 4096) ⌝ }
     requires { ⌜ (c + 1 < length (now texture)) × (e ≡ entryOf right (length (now texture)) c) ⌝ }
     ensures { λ r. ⌜ r ≡ mixed (seen right (now (texture .entry))) c k ⌝ }
 {
-    let s0 = sample_at(right, texture, c, e) as u32;
-    let s1 = sample_after(right, texture, c, e) as u32;
-    ((s0 * (4 - k) + s1 * k + 2) / 4) as u8
+    if right {
+        filter::between(texture, e - 1, 4 - k)
+    } else {
+        filter::between(texture, e, k)
+    }
 }
 
 // What a smooth pair shows at t.

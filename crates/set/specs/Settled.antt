@@ -5,6 +5,7 @@ use mathlib.Core.Bool.{Bool}
 use mathlib.Core.List.{List}
 use Rattle.model.specs.declared.Settings.{Settings}
 use Rattle.model.specs.declared.Block.{Block}
+use Rattle.model.specs.Combined.{worst}
 use Rattle.model.specs.Planes.{Pictures, Depths, View, Held, area}
 use Rattle.model.specs.Fresh.{fresh}
 use Rattle.model.specs.Blocks.{written}
@@ -21,7 +22,7 @@ pub record OwnSettled (right : Bool) (t : List ℕ) (share tolerance total w h :
   pub old : ℕ
   pub new : ℕ
   pub tried : BlockTrial w (around right share tolerance s₂ f₂ m₂ c reference) (own t texture d (v .limits)) b candidate (b .height) old new
-  pub judged : Judged total old new (65025 * (w * h)) r
+  pub judged : Judged total old new (worst * (w * h)) r
   pub kept-depths : (numberOf (r .refusal) ≡ 0 → ⊥) → d′ ≡ d
   pub kept-view : (numberOf (r .refusal) ≡ 0 → ⊥) → v′ ≡ v
   pub kept-combined : (numberOf (r .refusal) ≡ 0 → ⊥) → c′ ≡ c
@@ -38,7 +39,7 @@ pub record Settled (s : Settings) (p : Pictures) (d₀ d : Depths) (h₀ h : Hel
   pub old : ℕ
   pub new : ℕ
   pub tried : Tried s p d₀ h₀ v b c old new
-  pub judged : Judged (s .total) old new (65025 * area s) r
+  pub judged : Judged (s .total) old new (worst * area s) r
   pub kept-depths : (numberOf (r .refusal) ≡ 0 → ⊥) → d ≡ d₀
   pub kept-held : (numberOf (r .refusal) ≡ 0 → ⊥) → h ≡ h₀
   pub wrote : numberOf (r .refusal) ≡ 0 → Wrote s p d₀ d h₀ h v b c

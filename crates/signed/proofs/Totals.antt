@@ -12,6 +12,7 @@ use borrow.Author.Tests.{le-leb, leb-true}
 use lib.Dec.{leb}
 use lib.IntN.{ℤ, pos, negsuc, subℕ, natAbs, _+ℤ_, _-ℤ_}
 use Rattle.model.specs.declared.Settings.{Settings}
+use Rattle.model.specs.Combined.{worst}
 use Rattle.model.specs.Planes.{area}
 use Rattle.model.specs.Refusals.{within, inRange}
 use Rattle.model.proofs.Choice.{lt-or-le}
@@ -51,11 +52,11 @@ module _ (total old new : ℕ) where
 
 -- the held total is `was`, and the total with the candidate `is`
 module _ (s : Settings) (new old is was : ℕ) (held : s .total ≡ was) (e : is + old ≡ was + new) where
-  pub change-range : is ≤ 65025 * area s → inRange s (subℕ new old) ≡ true
+  pub change-range : is ≤ worst * area s → inRange s (subℕ new old) ≡ true
   unfolding inRange
   change-range h =
-      within-yes (s .total) old new (65025 * area s) (omega arith)
-      ∙ le-leb (s .total + new - old) (65025 * area s) (omega arith)
+      within-yes (s .total) old new (worst * area s) (omega arith)
+      ∙ le-leb (s .total + new - old) (worst * area s) (omega arith)
 
   pub change-total : natAbs (pos (s .total) +ℤ subℕ new old) ≡ is
   change-total = moved-is (s .total) old new (omega arith) ∙ omega arith

@@ -4,7 +4,7 @@ ghost use mathlib.Core.Path.{_≡_};
 ghost use Prim.Native.Nat.{_*_, _≤_};
 ghost use lib.ListN.{length, getD};
 ghost use Rattle.model.specs.Lists.{sumTo};
-ghost use Rattle.model.specs.Combined.{apart, shared, squareError};
+ghost use Rattle.model.specs.Combined.{worst, apart, shared, squareError};
 ghost use Rattle.sums.specs.Squares.{Squares};
 ghost use Rattle.sums.specs.Sides.{ownShare, prefersOwn, paired};
 
@@ -285,7 +285,7 @@ fn apart(a: u8, b: u8) -> u8
 // The squared error of two samples.
 pub fn square_error(squares: &[u16; 256], a: u8, b: u8) -> u32
     requires { ⌜ Squares (now squares) ⌝ }
-    ensures { λ r. ⌜ (r ≡ squareError a b) × (r ≤ 65025) ⌝ }
+    ensures { λ r. ⌜ (r ≡ squareError a b) × (r ≤ worst) ⌝ }
 {
     squares[apart(a, b) as usize] as u32
 }
@@ -347,7 +347,7 @@ pub fn paired(right: bool, share: u8, tolerance: u8, own: Pixel, other: Pixel) -
 pub fn row_error(squares: &[u16; 256], combined: &[u8], reference: &[u8]) -> u32
     requires { ⌜ Squares (now squares) ⌝ }
     requires { ⌜ (length (now combined) ≡ length (now reference)) × (length (now combined) ≤ 4096) ⌝ }
-    ensures { λ r. ⌜ (r ≡ sumTo (λ i. squareError (getD (now (combined .entry)) i 0) (getD (now (reference .entry)) i 0)) (length (now (combined .entry)))) × (r ≤ 65025 * length (now (combined .entry))) ⌝ }
+    ensures { λ r. ⌜ (r ≡ sumTo (λ i. squareError (getD (now (combined .entry)) i 0) (getD (now (reference .entry)) i 0)) (length (now (combined .entry)))) × (r ≤ worst * length (now (combined .entry))) ⌝ }
 {
     let mut sum = 0u32;
     let mut i = 0;

@@ -12,6 +12,7 @@ use Rattle.model.specs.declared.Block.{Block}
 use Rattle.model.specs.Lists.{rowOf, sumTo}
 use Rattle.model.specs.Views.{seen}
 use Rattle.model.specs.Marks.{markBytes}
+use Rattle.model.specs.Combined.{worst}
 use Rattle.model.proofs.Lists.{length-row, rows-apart}
 use Rattle.model.proofs.Sums.{sum-next, sum-most}
 use Rattle.model.proofs.Views.{length-seen}
@@ -51,12 +52,12 @@ module _ (w : ℕ) (o : Around) (v : Own) (b : Block) (c : List ℕ) where
       )
 
   -- they are at most 65,025 for each position of these rows
-  pub block-most : {n old new : ℕ} → BlockTrial w o v b c n old new → (b .row + n) * w ≤ length (v .depths) → (old ≤ 65025 * (w * n)) × (new ≤ 65025 * (w * n))
+  pub block-most : {n old new : ℕ} → BlockTrial w o v b c n old new → (b .row + n) * w ≤ length (v .depths) → (old ≤ worst * (w * n)) × (new ≤ worst * (w * n))
   block-most {n} r h =
       let m : sumTo (coveredIn w o v b c) n ≤ w * n = sum-most (coveredIn w o v b c) w n (λ i k. covered-most i (omega (arith, rows-apart w (b .row + i) (b .row + n) (omega arith)))) in
       (omega (arith, r .old-most), omega (arith, r .new-most))
 
-  pub block-small : {h n old new : ℕ} → BlockTrial w o v b c n old new → Fits w h b c → length (v .depths) ≡ w * h → n ≤ b .height → (old ≤ 65025 * 16777216) × (new ≤ 65025 * 16777216)
+  pub block-small : {h n old new : ℕ} → BlockTrial w o v b c n old new → Fits w h b c → length (v .depths) ≡ w * h → n ≤ b .height → (old ≤ worst * 16777216) × (new ≤ worst * 16777216)
   block-small {h} {n} r f e k =
       let inside : (b .row + n) * w ≤ h * w = mul-le-mul-right w (omega (arith, f .bottom)) in
       let m = block-most r (omega arith) in

@@ -15,7 +15,7 @@ use Rattle.model.specs.declared.Pixel.{Pixel}
 use Rattle.model.specs.Lists.{sumTo}
 use Rattle.model.specs.Row.{Line, width, place, placeIn, limit, pixel, pixelAt}
 use Rattle.model.specs.Views.{seen, entryOf}
-use Rattle.model.specs.Combined.{squareError}
+use Rattle.model.specs.Combined.{worst, squareError}
 use Rattle.model.proofs.Spans.{edited-moved, moved-limit, span-pixel}
 use Rattle.model.proofs.Sums.{sum-next, sum-same, sum-join, sum-part, sum-turn, sum-change}
 use Rattle.model.proofs.Views.{length-seen, entry-within, entry-entry}
@@ -67,7 +67,7 @@ pub measured-none : (o : Around) (from : ℕ) (g : ℕ → Pixel) → Measured o
 unfolding sumTo
 measured-none o from g = record { olds = refl; news = refl; old-most = omega arith; new-most = omega arith }
 
-pub measured-next : {o : Around} {from k : ℕ} {g : ℕ → Pixel} {old new x y : ℕ} → Measured o from k g old new → x ≡ squareError (getD (o .combined) (from + k) 0) (getD (o .reference) (from + k) 0) → x ≤ 65025 → y ≡ errorWith o (g k) (from + k) → y ≤ 65025 → Measured o from (k + 1) g (old + x) (new + y)
+pub measured-next : {o : Around} {from k : ℕ} {g : ℕ → Pixel} {old new x y : ℕ} → Measured o from k g old new → x ≡ squareError (getD (o .combined) (from + k) 0) (getD (o .reference) (from + k) 0) → x ≤ worst → y ≡ errorWith o (g k) (from + k) → y ≤ worst → Measured o from (k + 1) g (old + x) (new + y)
 measured-next {o} {from} {k} {g} t ex hx ey hy =
     record {
       olds = rw (t .olds, ex) (sym (sum-next (λ i. squareError (getD (o .combined) (from + i) 0) (getD (o .reference) (from + i) 0)) k));

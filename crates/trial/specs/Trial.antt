@@ -14,7 +14,7 @@ use Rattle.model.specs.Lists.{rowOf, sumTo}
 use Rattle.model.specs.Row.{Line, line, width, placeIn, pixelAt, limitAt}
 use Rattle.model.specs.Views.{seen, entryOf}
 use Rattle.model.specs.Marks.{markBytes}
-use Rattle.model.specs.Combined.{squareError}
+use Rattle.model.specs.Combined.{worst, squareError}
 use Rattle.model.specs.Span.{spanLow, firstColumn}
 use Rattle.planes.specs.Parts.{splice}
 use Rattle.marks.specs.Puts.{heldPixel}
@@ -115,15 +115,15 @@ shownError o w g p = errorWith o (g p) (entryOf (o .right) w p)
 pub record Summed (o : Around) (w : ℕ) (g : ℕ → Pixel) (start stop old new : ℕ) : Type 0 where
   pub olds : old + sumTo (heldError o w) start ≡ sumTo (heldError o w) stop
   pub news : new + sumTo (shownError o w g) start ≡ sumTo (shownError o w g) stop
-  pub old-most : old + 65025 * start ≤ 65025 * stop
-  pub new-most : new + 65025 * start ≤ 65025 * stop
+  pub old-most : old + worst * start ≤ worst * stop
+  pub new-most : new + worst * start ≤ worst * stop
 
 -- What is measured of n entries of a row from `from` on, where the view shows the pixels g: their squared errors, as held and as shown.
 pub record Measured (o : Around) (from n : ℕ) (g : ℕ → Pixel) (old new : ℕ) : Type 0 where
   pub olds : old ≡ sumTo (λ k. squareError (getD (o .combined) (from + k) 0) (getD (o .reference) (from + k) 0)) n
   pub news : new ≡ sumTo (λ k. errorWith o (g k) (from + k)) n
-  pub old-most : old ≤ 65025 * n
-  pub new-most : new ≤ 65025 * n
+  pub old-most : old ≤ worst * n
+  pub new-most : new ≤ worst * n
 
 -- What is tried of the positions from `start` up to `stop`, drawn from the pair q of the row l; from the pair r those before them can be drawn.
 pub record Stretch (o : Around) (l : Line) (start stop : ℕ) (q r : Pair) (old new : ℕ) : Type 0 where
@@ -139,8 +139,8 @@ covered right v x first =
 
 -- What the trial of a row answers: the squared errors of the covered positions, as held and with the candidate.
 pub record RowTrial (o : Around) (v : Own) (x : List ℕ) (first old new : ℕ) : Type 0 where
-  pub old-most : old ≤ 65025 * covered (o .right) v x first
-  pub new-most : new ≤ 65025 * covered (o .right) v x first
+  pub old-most : old ≤ worst * covered (o .right) v x first
+  pub new-most : new ≤ worst * covered (o .right) v x first
   pub change : RowHeld o v (first + length x) → rowTotal o (tried (o .right) v x first) + old ≡ rowTotal o (standing (o .right) v) + new
 
 -- ---- a block
@@ -209,6 +209,6 @@ module _ (w : ℕ) (o : Around) (v : Own) (b : Block) (c : List ℕ) where
 
 -- What the trial of the block's first n rows answers.
 pub record BlockTrial (w : ℕ) (o : Around) (v : Own) (b : Block) (c : List ℕ) (n old new : ℕ) : Type 0 where
-  pub old-most : old ≤ 65025 * sumTo (coveredIn w o v b c) n
-  pub new-most : new ≤ 65025 * sumTo (coveredIn w o v b c) n
+  pub old-most : old ≤ worst * sumTo (coveredIn w o v b c) n
+  pub new-most : new ≤ worst * sumTo (coveredIn w o v b c) n
   pub change : BlockHeld w o v b c → sumTo (totalAfter w o v b c) n + old ≡ sumTo (totalBefore w o v b c) n + new

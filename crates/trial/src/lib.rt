@@ -10,7 +10,7 @@ ghost use Rattle.model.specs.Row.{place, pixel};
 ghost use Rattle.model.specs.Views.{seen};
 ghost use Rattle.model.specs.Span.{firstColumn};
 ghost use Rattle.model.specs.Refusals.{tableOk};
-ghost use Rattle.model.specs.Combined.{squareError};
+ghost use Rattle.model.specs.Combined.{worst, squareError};
 ghost use Rattle.planes.specs.Parts.{splice, blockOf};
 ghost use Rattle.marks.specs.Puts.{heldPixel};
 ghost use Rattle.sums.specs.Squares.{Squares};
@@ -96,7 +96,7 @@ fn error_with(
 ) -> u32
     requires { ⌜ (Squares (now squares)) × (share ≤ 64) ⌝ }
     requires { ⌜ (i < length (now samples)) × ((i < length (now fronts)) × ((i < 8 * length (now marks)) × (i < length (now reference)))) ⌝ }
-    ensures { λ r. ⌜ (r ≡ squareError (paired right share tolerance q (heldPixel (now (samples .entry)) (now (fronts .entry)) (now (marks .entry)) i)) (getD (now (reference .entry)) i 0)) × (r ≤ 65025) ⌝ }
+    ensures { λ r. ⌜ (r ≡ squareError (paired right share tolerance q (heldPixel (now (samples .entry)) (now (fronts .entry)) (now (marks .entry)) i)) (getD (now (reference .entry)) i 0)) × (r ≤ worst) ⌝ }
 {
     let other = marks::held_pixel(samples, fronts, marks, i);
     sums::square_error(

@@ -153,15 +153,15 @@ fn spoiled(given: Turn) -> Turn {
 // The turns of the session, from 0 on: k, l and m, then 8 and 7 before 8, holes of either view, the highest total, and CHECK's reports.
 fn session_turn(i: usize) -> Turn {
     match i {
-        0 => tries(2, 4, 125),
+        0 => tries(2, 4, 136),
         1 => tries(2, 5, 100),
-        2 => writes(0, 2, 4, 125),
-        3 => tries(2, 5, -25),
-        4 => writes(0, 2, 0, -125),
-        5 => writes(0, 2, 4, 125),
-        6 => by_hand(writes(0, 2, 0, -125), 0),
+        2 => writes(0, 2, 4, 136),
+        3 => tries(2, 5, -36),
+        4 => writes(0, 2, 0, -136),
+        5 => writes(0, 2, 4, 136),
+        6 => by_hand(writes(0, 2, 0, -136), 0),
         7 => by_hand(any(0, 1, 1, 2), 0),
-        8 => by_hand(writes(0, 2, 5, -25), 125),
+        8 => by_hand(writes(0, 2, 5, -36), 136),
         9 => writes(0, 2, 0, -100),
         10 => writes(1, 1, 5, 0),
         11 => writes(1, 1, 0, 0),
@@ -957,12 +957,18 @@ fn run_order() {
     );
 }
 
-// RENDER of two rows, what it takes and what it refuses.
+// RENDER of some rows, what it takes and what it refuses.
 fn run_strips() {
     let torn = [0u8, 0, 5, 0];
     let near = [2u8, 2, 2, 2];
     strip(b"row g", settings(4, 1, 255, 255, 0), 0, &torn);
     strip(b"row e", settings(4, 1, 255, 255, 0), 1, &near);
+    let quarter = [1u8; 4];
+    strip(b"row k 1", settings(4, 1, 255, 255, 0), 0, &quarter);
+    strip(b"row k 1, right", settings(4, 1, 255, 255, 0), 1, &quarter);
+    let most = [3u8; 4];
+    strip(b"row k 3", settings(4, 1, 255, 255, 0), 0, &most);
+    strip(b"row k 3, right", settings(4, 1, 255, 255, 0), 1, &most);
     wide_strip(b"row w 4096", settings(4096, 1, 255, 255, 0), 1);
     strip(
         b"row h 0, share 65",

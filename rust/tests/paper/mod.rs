@@ -6,6 +6,17 @@
 
 use luphwezane::{Block, Pictures, Planes, Report, Settings};
 
+/// The greatest sample.
+pub const WHITE: i32 = 255;
+
+/// The H.265 luma filters of k = 1, 2 and 3, over columns c − 3 to c + 4 (card 2).
+#[rustfmt::skip]
+pub const TAPS: [[i32; 8]; 3] = [
+    [-1, 4, -10, 58, 17,  -5, 1,  0],
+    [-1, 4, -11, 40, 40, -11, 4, -1],
+    [ 0, 1,  -5, 17, 58, -10, 4, -1],
+];
+
 /// What a view shows at a position.
 #[derive(Clone, Copy, Debug, PartialEq, Eq)]
 pub struct Pixel {
@@ -48,6 +59,19 @@ impl LeftRow<'_> {
         (0..self.w()).rev().find(|&c| self.place(c) <= 4 * p as i32).expect("column 0 has a place of 0 or less")
     }
 
+    /// The gap of column c, which is not the last.
+    pub fn gap(&self, c: usize) -> i32 {
+        self.place(c + 1) - self.place(c)
+    }
+
+    /// The filter of k over columns c − 3 to c + 4, ends repeated, before it is held to 0 to 255.
+    pub fn filtered(&self, c: usize, k: usize) -> i32 {
+        let last = self.w() as i32 - 1;
+        let sample = |column: i32| i32::from(self.texture[column.clamp(0, last) as usize]);
+        let sum: i32 = (-3..=4).zip(TAPS[k - 1]).map(|(i, tap)| tap * sample(c as i32 + i)).sum();
+        (sum + 32).div_euclid(64)
+    }
+
     pub fn pixel(&self, p: usize) -> Pixel {
         let c = self.owner(p);
         let t = 4 * p as i32 - self.place(c);
@@ -55,14 +79,16 @@ impl LeftRow<'_> {
         if c == self.w() - 1 {
             return plain(c, u8::from(t > 1));
         }
-        let gap = self.place(c + 1) - self.place(c);
+        let gap = self.gap(c);
         if gap <= 0 {
             panic!("a hidden pair owns nothing");
         } else if gap <= 8 {
-            let k = (8 * t + gap) / (2 * gap);
-            assert!((0..=4).contains(&k));
-            let (here, next) = (i32::from(self.texture[c]), i32::from(self.texture[c + 1]));
-            Pixel { sample: ((here * (4 - k) + next * k + 2) / 4) as u8, mark: 0, front: self.depths[c] }
+            let sample = match step(t, gap) {
+                0 => self.texture[c],
+                4 => self.texture[c + 1],
+                k => self.filtered(c, k).clamp(0, WHITE) as u8,
+            };
+            Pixel { sample, mark: 0, front: self.depths[c] }
         } else if t <= 1 {
             plain(c, 0)
         } else {
@@ -73,6 +99,13 @@ impl LeftRow<'_> {
     pub fn drawn(&self) -> DrawnRow {
         DrawnRow { pixels: (0..self.w()).map(|p| self.pixel(p)).collect(), limits: (0..self.w()).map(|c| self.limit(c) as i16).collect() }
     }
+}
+
+/// The k of a smooth pair, t quarters from its column's place.
+pub fn step(t: i32, gap: i32) -> usize {
+    let k = (8 * t + gap) / (2 * gap);
+    assert!((0..=4).contains(&k));
+    k as usize
 }
 
 pub fn reversed<T: Copy>(row: &[T]) -> Vec<T> {

@@ -75,7 +75,7 @@ pub fn sessions(name: &str, otherwise: u64, session: impl Fn(&mut Random, u64)) 
     }
 }
 
-/// Columns and rows: mostly small, some at the edges.
+/// Columns and rows: mostly small, many too narrow for a whole filter, some at the edges.
 pub fn size(random: &mut Random) -> (usize, usize) {
     match random.between(0, 599) {
         0 => (4096, random.between(1, 2)),
@@ -83,21 +83,23 @@ pub fn size(random: &mut Random) -> (usize, usize) {
         2..=5 => (random.between(200, 1100), random.between(1, 2)),
         6..=25 => (random.between(41, 130), random.between(1, 4)),
         26..=40 => (random.pick(&[63, 64, 65, 72, 127, 128, 129]), random.between(1, 4)),
-        41..=200 => (random.pick(&[1, 7, 8, 9, 15, 16, 17]), random.between(1, 6)),
+        41..=160 => (random.pick(&[1, 7, 8, 9, 15, 16, 17]), random.between(1, 6)),
+        161..=360 => (random.between(1, 9), random.between(1, 6)),
         _ => (random.between(1, 40), random.between(1, 8)),
     }
 }
 
-/// A table of disparities: rising, falling, flat or wild, small or large.
+/// A table of disparities: rising, falling, flat, a sample apart or wild, small or large.
 pub fn table(random: &mut Random, w: usize) -> [u16; 256] {
     let most = random.pick(&[3, 9, 20, 60, 4 * w.min(255), 255, 1023]);
     let entry = random.between(0, most);
-    match random.between(0, 6) {
+    match random.between(0, 7) {
         0 => std::array::from_fn(|d| d as u16),
         1 => std::array::from_fn(|d| (d * most / 255) as u16),
         2 => std::array::from_fn(|d| ((255 - d) * most / 255) as u16),
         3 => [entry as u16; 256],
         4 => std::array::from_fn(|_| random.pick(&[0, most as u16])),
+        5 => std::array::from_fn(|_| random.pick(&[entry.saturating_sub(4), entry]) as u16),
         _ => std::array::from_fn(|_| random.between(0, most) as u16),
     }
 }
@@ -119,6 +121,21 @@ pub fn plane(random: &mut Random, w: usize, h: usize) -> Vec<u8> {
             plane
         }
     }
+}
+
+/// A plane of samples: any plane, or black and white in runs of 1 to 4, where the filter passes 0 and 255.
+pub fn texture(random: &mut Random, w: usize, h: usize) -> Vec<u8> {
+    if random.once_in(2) {
+        return plane(random, w, h);
+    }
+    let (longest, mut sample) = (random.between(1, 4), random.pick(&[0, 255]));
+    let mut plane = Vec::new();
+    while plane.len() < w * h {
+        plane.resize(plane.len() + random.between(1, longest), sample);
+        sample = 255 - sample;
+    }
+    plane.truncate(w * h);
+    plane
 }
 
 fn fill(plane: &mut [u8], w: usize, block: Block, value: u8) {
@@ -181,8 +198,8 @@ impl Scene {
         let right = if random.once_in(2) { left } else { table(random, w) };
         let total = random.next();
         let settings = Settings { w: w as u32, h: h as u32, left, right, share, tolerance, total };
-        let textures = [plane(random, w, h), plane(random, w, h)];
-        let reference = if random.once_in(3) { textures[0].clone() } else { plane(random, w, h) };
+        let textures = [texture(random, w, h), texture(random, w, h)];
+        let reference = if random.once_in(3) { textures[0].clone() } else { texture(random, w, h) };
         Scene { settings, textures, reference, depths: [plane(random, w, h), plane(random, w, h)] }
     }
 

@@ -5,14 +5,14 @@ use native.Mathlib.Omega.{arith}
 use native.Mathlib.Numerals.{add-one}
 use lib.ListN.{length, getD}
 use Rattle.model.specs.Lists.{sumTo}
-use Rattle.model.specs.Combined.{squareError}
+use Rattle.model.specs.Combined.{worst, squareError}
 use Rattle.sums.proofs.row_error.Statement.{statement}
 use Rattle.sums.proofs.row_error.Tie as tie
 
 abbrev Inv-loop : tie.InvT-loop
 Inv-loop squares combined reference sum₀ i₀ sum i =
     (i ≤ length combined)
-    × ((sum ≤ 65025 * i) × (sum ≡ sumTo (λ k. squareError (getD combined k 0) (getD reference k 0)) i))
+    × ((sum ≤ worst * i) × (sum ≡ sumTo (λ k. squareError (getD combined k 0) (getD reference k 0)) i))
 
 abbrev μ-loop : tie.MeasureT-loop
 μ-loop squares combined reference sum₀ i₀ sum i = length combined - i

@@ -4,7 +4,7 @@ use mathlib.Core.Path.{_≡_}
 use native.Mathlib.Omega.{arith}
 use lib.ListN.{getD}
 use borrow.Author.Needs.{needs}
-use Rattle.model.specs.Combined.{apart, squareError}
+use Rattle.model.specs.Combined.{worst, apart, squareError}
 use Rattle.model.proofs.Totals.{square-most}
 use Rattle.sums.proofs.square_error.Statement.{statement}
 use Rattle.sums.proofs.square_error.Tie as tie
@@ -13,7 +13,7 @@ use Rattle.sums.proofs.square_error.Tie as tie
 error-is : (c : tie.After-result) →
     let a = c .before .before .args in
     let r = getD (a .squares .now) (c .before .apart .result) 0 in
-    (r ≡ squareError (a .a) (a .b)) × (r ≤ 65025)
+    (r ≡ squareError (a .a) (a .b)) × (r ≤ worst)
 unfolding squareError
 error-is c =
     let s = c .before .before in

@@ -1,5 +1,5 @@
-//! What both comparison programs hold and share: the planes of a session, the pixel of a pair of columns, and the combined
-//! sample. Plain safe Rust, which trusts its caller: no call tests lengths or tables.
+//! What both comparison programs hold and share: the planes of a session, the pixel of a pair of columns with its filter, and
+//! the combined sample. Plain safe Rust, which trusts its caller: no call tests lengths or tables.
 
 use crate::scene::Scene;
 use luphwezane::{Block, Pictures, Planes, PlanesMut, Settings};
@@ -104,10 +104,10 @@ pub struct Pixel {
     pub front: u8,
 }
 
-/// A column, its right neighbour as the view reads the row, and their gap in quarters.
+/// A column, its right neighbour as the view reads the row, their gap in quarters, and the samples around them.
 #[derive(Clone, Copy)]
 pub struct Pair {
-    pub samples: [u8; 2],
+    pub window: [u8; 8],
     pub depths: [u8; 2],
     pub gap: i32,
     pub last: bool,
@@ -120,12 +120,71 @@ impl Pair {
         if !self.last && self.gap <= 8 {
             let (t, gap) = (t as u32, self.gap as u32);
             let k = (8 * t + gap) / (2 * gap);
-            let sample = (u32::from(self.samples[0]) * (4 - k) + u32::from(self.samples[1]) * k + 2) / 4;
-            return Pixel { sample: sample as u8, hole: false, front: self.depths[0] };
+            return Pixel { sample: filtered(self.window, k), hole: false, front: self.depths[0] };
         }
         let far = usize::from(t > 1);
-        Pixel { sample: self.samples[far], hole: t > 1, front: self.depths[far] }
+        Pixel { sample: self.window[3 + far], hole: t > 1, front: self.depths[far] }
     }
+}
+
+/// The samples of columns c − 3 to c + 4 as the view reads the row, ends repeated, of a column c at entry `at`. The column's
+/// own is entry 3, its right neighbour's entry 4; the last column is its own neighbour.
+#[inline(always)]
+pub fn window<const RIGHT: bool>(texture: &[u8], at: usize) -> [u8; 8] {
+    let before = if RIGHT { 4 } else { 3 };
+    let first = at.wrapping_sub(before);
+    let mut window = match texture.get(first..first.wrapping_add(8)) {
+        Some(inside) => inside.try_into().expect("there are eight"),
+        None => end_window(texture, at, before),
+    };
+    if RIGHT {
+        window.reverse();
+    }
+    window
+}
+
+/// Kept out of the loops, which seldom come to an end of the row.
+#[cold]
+#[inline(never)]
+fn end_window(texture: &[u8], at: usize, before: usize) -> [u8; 8] {
+    std::array::from_fn(|i| texture[(at + i).saturating_sub(before).min(texture.len() - 1)])
+}
+
+/// The H.265 luma filters of k = 1, 2 and 3; k of 0 and 4 are plain samples.
+#[rustfmt::skip]
+const TAPS: [[i64; 8]; 5] = [
+    [ 0, 0,   0, 64,  0,   0, 0,  0],
+    [-1, 4, -10, 58, 17,  -5, 1,  0],
+    [-1, 4, -11, 40, 40, -11, 4, -1],
+    [ 0, 1,  -5, 17, 58, -10, 4, -1],
+    [ 0, 0,   0,  0, 64,   0, 0,  0],
+];
+
+/// Of each filter the taps of even entries as one number and those of odd ones as another, 16 bits a tap, the first highest.
+const FACTORS: [[i64; 2]; 5] = {
+    let mut factors = [[0; 2]; 5];
+    let mut i = 0;
+    while i < 40 {
+        let (k, entry) = (i / 8, i % 8);
+        factors[k][entry % 2] += TAPS[k][entry] << (48 - entry / 2 * 16);
+        i += 1;
+    }
+    factors
+};
+
+/// The sample of a smooth pair. Four samples, 16 bits each and the first lowest, times four taps give the sum of the four
+/// products in the highest 16 bits: two multiplications do for eight. What stands below is less than half a unit there
+/// either way, and half a unit more keeps it from borrowing.
+#[inline(always)]
+fn filtered(window: [u8; 8], k: u32) -> u8 {
+    if k == 0 {
+        return window[3];
+    }
+    let (word, bytes) = (u64::from_le_bytes(window), 0x00ff_00ff_00ff_00ff);
+    let [even, odd] = FACTORS[k as usize];
+    let (evens, odds) = ((word & bytes) as i64, (word >> 8 & bytes) as i64);
+    let sum = evens.wrapping_mul(even).wrapping_add(odds.wrapping_mul(odd)).wrapping_add((32 << 48) + (1 << 47));
+    (sum >> (48 + 6)).clamp(0, 255) as u8
 }
 
 #[inline(always)]
@@ -159,5 +218,34 @@ pub fn seen<const RIGHT: bool>(w: usize, i: usize) -> usize {
         w - 1 - i
     } else {
         i
+    }
+}
+
+#[cfg(test)]
+mod tests {
+    use super::{filtered, window, TAPS};
+
+    /// Black and white have the greatest sums: where they do not spill over, no others do.
+    #[test]
+    fn two_multiplications_do_for_eight() {
+        for (k, taps) in TAPS.iter().enumerate() {
+            for bits in 0..256 {
+                let window = std::array::from_fn(|i| if bits >> i & 1 == 1 { 255 } else { 0 });
+                let sum: i64 = window.iter().zip(taps).map(|(&sample, tap)| i64::from(sample) * tap).sum();
+                assert_eq!(i64::from(filtered(window, k as u32)), (sum + 32).div_euclid(64).clamp(0, 255), "{window:?}, k = {k}");
+            }
+        }
+    }
+
+    #[test]
+    fn ends_are_repeated() {
+        let row: Vec<u8> = (0..10).collect();
+        assert_eq!(window::<false>(&row, 3), [0, 1, 2, 3, 4, 5, 6, 7]);
+        assert_eq!(window::<false>(&row, 2), [0, 0, 1, 2, 3, 4, 5, 6]);
+        assert_eq!(window::<false>(&row, 9), [6, 7, 8, 9, 9, 9, 9, 9]);
+        assert_eq!(window::<true>(&row, 4), [7, 6, 5, 4, 3, 2, 1, 0]);
+        assert_eq!(window::<true>(&row, 9), [9, 9, 9, 9, 8, 7, 6, 5]);
+        assert_eq!(window::<true>(&row, 0), [3, 2, 1, 0, 0, 0, 0, 0]);
+        assert_eq!(window::<false>(&row[5..7], 1), [5, 5, 5, 6, 6, 6, 6, 6]);
     }
 }

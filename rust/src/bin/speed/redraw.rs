@@ -1,7 +1,7 @@
 //! A program that redraws the block's rows completely for every trial. It keeps each row's error, so that a trial draws
 //! one view's row, combines it with the other view's and adds up.
 
-use crate::held::{combine, position, seen, square, Held, Pair, Pixel};
+use crate::held::{combine, position, seen, square, window, Held, Pair, Pixel};
 use crate::scene::Scene;
 use luphwezane::{Block, Settings};
 
@@ -122,19 +122,20 @@ fn draw_row<const RIGHT: bool>(table: &[u16; 256], texture: &[u8], row: &mut Row
     let mut next = None;
     for c in (0..w).rev() {
         let at = seen::<RIGHT>(w, c);
-        let (sample, depth) = (texture[at], row.depths[at]);
+        let depth = row.depths[at];
         let place = 4 * c as i32 - i32::from(table[usize::from(depth)]);
         limit = limit.min(place);
         row.limits[at] = limit as i16;
         let from = position(place);
         if from < top {
-            let (far_sample, far_depth, far_place) = next.unwrap_or((sample, depth, 0));
-            let pair = Pair { samples: [sample, far_sample], depths: [depth, far_depth], gap: far_place - place, last: next.is_none() };
+            let (far_depth, far_place) = next.unwrap_or((depth, 0));
+            let window = window::<RIGHT>(texture, at);
+            let pair = Pair { window, depths: [depth, far_depth], gap: far_place - place, last: next.is_none() };
             for p in from..top {
                 row.pixels[seen::<RIGHT>(w, p)] = pair.pixel(4 * p as i32 - place);
             }
             top = from;
         }
-        next = Some((sample, depth, place));
+        next = Some((depth, place));
     }
 }

@@ -1,7 +1,7 @@
 //! A span renderer written for speed: the library's own way of working, by hand. A trial goes over the span of each of the
 //! block's rows once, from the right, and adds up old and new errors without storing a pixel.
 
-use crate::held::{combine, position, seen, square, Held, Pair, Pixel};
+use crate::held::{combine, position, seen, square, window, Held, Pair, Pixel};
 use crate::scene::Scene;
 use luphwezane::{Block, Settings};
 
@@ -135,7 +135,7 @@ impl Span {
         if edit.end < w {
             let at = seen::<RIGHT>(w, edit.end);
             top = position(i32::from(limits[at]));
-            next = Some((texture[at], depths[at], place(edit.end, depths[at])));
+            next = Some((depths[at], place(edit.end, depths[at])));
         }
 
         let (mut old, mut new) = (0, 0);
@@ -144,11 +144,12 @@ impl Span {
             c -= 1;
             let at = seen::<RIGHT>(w, c);
             let depth = if c >= edit.first { edit.part[at - edit.column] } else { depths[at] };
-            let (sample, here) = (texture[at], place(c, depth));
+            let here = place(c, depth);
             let from = position(here).max(start);
             if from < top {
-                let (far_sample, far_depth, far_place) = next.unwrap_or((sample, depth, 0));
-                let pair = Pair { samples: [sample, far_sample], depths: [depth, far_depth], gap: far_place - here, last: next.is_none() };
+                let (far_depth, far_place) = next.unwrap_or((depth, 0));
+                let window = window::<RIGHT>(texture, at);
+                let pair = Pair { window, depths: [depth, far_depth], gap: far_place - here, last: next.is_none() };
                 for p in from..top {
                     let at = seen::<RIGHT>(w, p);
                     let own = pair.pixel(4 * p as i32 - here);
@@ -161,7 +162,7 @@ impl Span {
                 }
                 top = from;
             }
-            next = Some((sample, depth, here));
+            next = Some((depth, here));
         }
         i64::from(new) - i64::from(old)
     }
@@ -208,14 +209,15 @@ impl Span {
         let (mut top, mut limit, mut next) = (w, i32::MAX, None);
         for c in (0..w).rev() {
             let at = seen::<RIGHT>(w, c);
-            let (sample, depth) = (texture[at], depths[at]);
+            let depth = depths[at];
             let place = 4 * c as i32 - i32::from(held.tables[view][usize::from(depth)]);
             limit = limit.min(place);
             limits[at] = limit as i16;
             let from = position(place);
             if from < top {
-                let (far_sample, far_depth, far_place) = next.unwrap_or((sample, depth, 0));
-                let pair = Pair { samples: [sample, far_sample], depths: [depth, far_depth], gap: far_place - place, last: next.is_none() };
+                let (far_depth, far_place) = next.unwrap_or((depth, 0));
+                let window = window::<RIGHT>(texture, at);
+                let pair = Pair { window, depths: [depth, far_depth], gap: far_place - place, last: next.is_none() };
                 for p in from..top {
                     let (at, pixel) = (seen::<RIGHT>(w, p), pair.pixel(4 * p as i32 - place));
                     samples[at] = pixel.sample;
@@ -224,7 +226,7 @@ impl Span {
                 }
                 top = from;
             }
-            next = Some((sample, depth, place));
+            next = Some((depth, place));
         }
     }
 }

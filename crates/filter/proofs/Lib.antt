@@ -1,0 +1,4 @@
+-- Why it holds.
+pub mod Sums
+pub mod Near
+pub mod Turned

@@ -1,0 +1,2 @@
+-- The filters in naturals.
+pub mod Sums

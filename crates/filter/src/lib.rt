@@ -1,0 +1,136 @@
+// The sample between two neighbouring ones of a row, by the H.265 luma filters of document 02, card 2.
+ghost use mathlib.Core.Path.{_≡_};
+ghost use Prim.Native.Nat.{_+_, _-_, _<_, _≤_, min};
+ghost use lib.ListN.{length};
+ghost use Rattle.model.specs.Row.{repeated, mixed};
+ghost use Rattle.filter.specs.Sums.{scaled, quarterOf, halfOf};
+
+// What is added less what is taken away, divided by 64 and held to a sample.
+fn scale(added: u32, taken: u32) -> u8
+    ensures { λ r. ⌜ r ≡ scaled added taken ⌝ }
+{
+    if added < taken {
+        return 0;
+    }
+    let n = (added - taken) / 64;
+    if n < 255 { n as u8 } else { 255 }
+}
+
+// A quarter of the way from s3 to s4.
+fn quarter_of(s0: u8, s1: u8, s2: u8, s3: u8, s4: u8, s5: u8, s6: u8) -> u8
+    ensures { λ r. ⌜ r ≡ quarterOf s0 s1 s2 s3 s4 s5 s6 ⌝ }
+{
+    let added = 4 * s1 as u32 + 58 * s3 as u32 + 17 * s4 as u32 + s6 as u32 + 32;
+    let taken = s0 as u32 + 10 * s2 as u32 + 5 * s5 as u32;
+    scale(added, taken)
+}
+
+// Half of the way from s3 to s4.
+fn half_of(s0: u8, s1: u8, s2: u8, s3: u8, s4: u8, s5: u8, s6: u8, s7: u8) -> u8
+    ensures { λ r. ⌜ r ≡ halfOf s0 s1 s2 s3 s4 s5 s6 s7 ⌝ }
+{
+    let added = 4 * (s1 as u32 + s6 as u32) + 40 * (s3 as u32 + s4 as u32) + 32;
+    let taken = s0 as u32 + s7 as u32 + 11 * (s2 as u32 + s5 as u32);
+    scale(added, taken)
+}
+
+// The sample k quarters of the way from the fourth of eight samples to the fifth.
+fn inner(near: &[u8], k: u32) -> u8
+    requires { ⌜ (1 ≤ k) × (k ≤ 3) ⌝ }
+    requires { ⌜ length (now near) ≡ 8 ⌝ }
+    ensures { λ r. ⌜ r ≡ mixed (now (near .entry)) 3 k ⌝ }
+{
+    if k == 1 {
+        return quarter_of(
+            near[0],
+            near[1],
+            near[2],
+            near[3],
+            near[4],
+            near[5],
+            near[6],
+        );
+    }
+    if k == 2 {
+        return half_of(
+            near[0],
+            near[1],
+            near[2],
+            near[3],
+            near[4],
+            near[5],
+            near[6],
+            near[7],
+        );
+    }
+    // the same taps as a quarter of the way, read backwards
+    quarter_of(
+        near[7],
+        near[6],
+        near[5],
+        near[4],
+        near[3],
+        near[2],
+        near[1],
+    )
+}
+
+// Column i − 3 of a row of w, or the end that it lies past.
+fn column_at(i: usize, w: usize) -> usize
+    requires { ⌜ 0 < w ⌝ }
+    ensures { λ r. ⌜ (r ≡ min (i - 3) (w - 1)) × (r < w) ⌝ }
+{
+    if i < 3 {
+        return 0;
+    }
+    if i - 3 < w { i - 3 } else { w - 1 }
+}
+
+// The sample of column i − 3, ends repeated.
+fn repeated_at(row: &[u8], i: usize) -> u8
+    requires { ⌜ 0 < length (now row) ⌝ }
+    ensures { λ r. ⌜ r ≡ repeated (now (row .entry)) i ⌝ }
+{
+    row[column_at(i, row.len())]
+}
+
+// The same from column c of a row, where some of the eight lie past its ends.
+fn outer(row: &[u8], c: usize, k: u32) -> u8
+    requires { ⌜ (1 ≤ k) × (k ≤ 3) ⌝ }
+    requires { ⌜ (c < length (now row)) × (length (now row) ≤ 4096) ⌝ }
+    ensures { λ r. ⌜ r ≡ mixed (now (row .entry)) c k ⌝ }
+{
+    let near = [
+        repeated_at(row, c),
+        repeated_at(row, c + 1),
+        repeated_at(row, c + 2),
+        repeated_at(row, c + 3),
+        repeated_at(row, c + 4),
+        repeated_at(row, c + 5),
+        repeated_at(row, c + 6),
+        repeated_at(row, c + 7),
+    ];
+    inner(&near, k)
+}
+
+// The sample k quarters of the way from column c to the next.
+pub fn between(row: &[u8], c: usize, k: u32) -> u8
+    requires { ⌜ k ≤ 4 ⌝ }
+    requires { ⌜ (c + 1 < length (now row)) × (length (now row) ≤ 4096) ⌝ }
+    ensures { λ r. ⌜ r ≡ mixed (now (row .entry)) c k ⌝ }
+{
+    if k == 0 {
+        return row[c];
+    }
+    if 3 < k {
+        return row[c + 1];
+    }
+    if 3 <= c {
+        if c + 4 < row.len() {
+            let from = c - 3;
+            let to = c + 5;
+            return inner(&row[from..to], k);
+        }
+    }
+    outer(row, c, k)
+}

@@ -1,0 +1,122 @@
+//! The filter of smooth pairs (card 2): RENDER against the independent renderer in rows of every small width, with every k
+//! at every column, windows past the ends, and sums that are held to 0 and to 255. Rows are written as the view reads them.
+
+mod paper;
+mod random;
+
+use luphwezane::{render, Settings, View};
+use paper::{reversed, LeftRow};
+use random::Random;
+use std::collections::BTreeSet;
+
+/// What the rows of a test have had.
+#[derive(Default)]
+struct Reached {
+    /// View, width, column and k of smooth pairs.
+    steps: BTreeSet<(usize, usize, usize, usize)>,
+    /// View, and whether the filter's window passes the first column and the last.
+    windows: BTreeSet<(usize, bool, bool)>,
+    /// View, and whether the filter gave less than 0 or more than 255.
+    held: BTreeSet<(usize, bool, bool)>,
+}
+
+impl Reached {
+    /// Draws a row by the library and by the independent renderer; the table's entry d is d.
+    fn compare(&mut self, view: View, texture: &[u8], depths: &[u8]) -> Vec<u8> {
+        let table = std::array::from_fn(|d| d as u16);
+        let settings = Settings { w: depths.len() as u32, h: 1, left: table, right: table, share: 0, tolerance: 0, total: 0 };
+        let stored = |row: &[u8]| if view == View::Left { row.to_vec() } else { reversed(row) };
+        let row = render(&settings, view, &stored(texture), &stored(depths)).expect("RENDER accepts it");
+        let pixels = paper::drawn_row(&table, view as usize, &stored(texture), &stored(depths)).pixels;
+        assert_eq!(row.samples, pixels.iter().map(|x| x.sample).collect::<Vec<_>>(), "{view:?}, {texture:?}, {depths:?}");
+        assert_eq!(row.marks, paper::packed(pixels.iter().map(|x| x.mark)));
+        assert_eq!(row.fronts, pixels.iter().map(|x| x.front).collect::<Vec<_>>());
+        self.note(view as usize, &LeftRow { table: &table, texture, depths });
+        stored(&row.samples)
+    }
+
+    fn note(&mut self, view: usize, row: &LeftRow) {
+        let w = row.w();
+        for p in 0..w {
+            let c = row.owner(p);
+            if c == w - 1 || row.gap(c) > 8 {
+                continue;
+            }
+            let k = paper::step(4 * p as i32 - row.place(c), row.gap(c));
+            self.steps.insert((view, w, c, k));
+            if (1..=3).contains(&k) {
+                let filtered = row.filtered(c, k);
+                self.windows.insert((view, c < 3, c + 4 > w - 1));
+                self.held.insert((view, filtered < 0, filtered > 255));
+            }
+        }
+    }
+
+    /// Every k at every column but the last of rows of these widths; windows inside and past either end or both; sums that
+    /// were held and such that were not.
+    fn assert_all(&self, widths: &[usize]) {
+        for view in 0..2 {
+            for &w in widths {
+                for c in 0..w - 1 {
+                    assert!((0..=4).all(|k| self.steps.contains(&(view, w, c, k))), "view {view}, column {c} of {w}");
+                }
+            }
+            for (first, last) in [(false, false), (true, false), (false, true), (true, true)] {
+                assert!(self.windows.contains(&(view, first, last)), "view {view}, past the first {first}, past the last {last}");
+            }
+            for (below, above) in [(false, false), (true, false), (false, true)] {
+                assert!(self.held.contains(&(view, below, above)), "view {view}, below 0 {below}, above 255 {above}");
+            }
+        }
+    }
+}
+
+/// Depths with a step: columns up to c have the first, the others the second.
+fn step(w: usize, c: usize, depths: [u8; 2]) -> Vec<u8> {
+    (0..w).map(|e| depths[usize::from(e > c)]).collect()
+}
+
+/// Equal depths of k quarters give every column that k; a gap of 8, 7 quarters on, gives 4.
+#[test]
+fn every_row_of_black_and_white() {
+    let (widths, mut reached) = ([1, 2, 3, 4, 5, 6, 7, 8, 9], Reached::default());
+    for w in widths {
+        let flat = (0..4).map(|k| vec![k; w]);
+        let depths: Vec<Vec<u8>> = flat.chain((0..w).map(|c| step(w, c, [7, 3]))).collect();
+        for bits in 0..1 << w {
+            let texture: Vec<u8> = (0..w).map(|c| if bits >> c & 1 == 1 { 255 } else { 0 }).collect();
+            for (view, depths) in View::BOTH.into_iter().flat_map(|view| depths.iter().map(move |depths| (view, depths))) {
+                reached.compare(view, &texture, depths);
+            }
+        }
+    }
+    reached.assert_all(&widths);
+}
+
+/// Steps of every gap at every column, over random textures.
+#[test]
+fn every_step_of_depth() {
+    let (widths, mut reached, random) = ([1, 2, 3, 4, 5, 6, 7, 8, 9, 16, 40], Reached::default(), &mut Random::new(1, 0));
+    for w in widths {
+        for (view, c) in View::BOTH.into_iter().flat_map(|view| (0..w).map(move |c| (view, c))) {
+            for depths in (0..=12).flat_map(|first| (0..=12).map(move |second| [first, second])) {
+                reached.compare(view, &random::texture(random, w, 1), &step(w, c, depths));
+            }
+        }
+    }
+    reached.assert_all(&widths);
+}
+
+/// One sample 64 above the others shows the taps of each k, from the last to the first.
+#[test]
+fn one_sample_shows_the_taps() {
+    let mut texture = [100; 15];
+    texture[7] += 64;
+    for view in View::BOTH {
+        let shown = |k| Reached::default().compare(view, &texture, &[k; 15])[2..12].to_vec();
+        assert_eq!(shown(0), [100, 100, 100, 100, 100, 164, 100, 100, 100, 100]);
+        assert_eq!(shown(1), [100, 100, 101, 95, 117, 158, 90, 104, 99, 100]);
+        assert_eq!(shown(2), [100, 99, 104, 89, 140, 140, 89, 104, 99, 100]);
+        assert_eq!(shown(3), [100, 99, 104, 90, 158, 117, 95, 101, 100, 100]);
+    }
+}
