@@ -225,9 +225,10 @@ LUPH_PRIVATE_APART void luph_private_fill(luph_private_copy *x, const luph_pictu
 /* ---- The calls. ---- */
 
 /*
- * RENDER: draws one row of one view, with that view's table, into samples, packed marks and front depths.
- * texture, depth, sample and front have s->w entries, marks (s->w + 7) / 8; s->h, share, tolerance and total
- * are not looked at. Refuses 1 (by w alone), 2, 3, then 6.
+ * RENDER: draws one row of one view, with that view's table, into samples, packed marks and front depths. A sample
+ * between two columns of one surface is interpolated by the H.265 luma filters, in quarters. texture,
+ * depth, sample and front have s->w entries, marks (s->w + 7) / 8; s->h, share, tolerance and total are not looked
+ * at. Refuses 1 (by w alone), 2, 3, then 6.
  */
 static inline int luph_render(const luph_settings *s, uint32_t view, luph_in texture, luph_in depth, luph_out sample, luph_out marks,
     luph_out front) {

@@ -13,7 +13,8 @@ pub struct Row {
     pub fronts: Vec<u8>,
 }
 
-/// Draws one row of one view with that view's table.
+/// Draws one row of one view with that view's table. A sample between two columns of one surface is interpolated by the H.265
+/// luma filters, in quarters.
 ///
 /// Texture and depths have `settings.w` entries; h, share, tolerance and total are not looked at.
 ///
