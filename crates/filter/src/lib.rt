@@ -94,7 +94,7 @@ fn repeated_at(row: &[u8], i: usize) -> u8
     row[column_at(i, row.len())]
 }
 
-// The same from column c of a row, where some of the eight lie past its ends.
+// The sample k quarters of the way from column c to the next, where some of the eight samples lie past an end of the row.
 fn outer(row: &[u8], c: usize, k: u32) -> u8
     requires { ⌜ (1 ≤ k) × (k ≤ 3) ⌝ }
     requires { ⌜ (c < length (now row)) × (length (now row) ≤ 4096) ⌝ }
