@@ -1,6 +1,6 @@
 -- Eight samples decide.
---     near-part, near-list, around-near   where eight samples come from: a part of the row, a list, the row around a column
---     near-filtered, near-mixed           the filters give the same over the eight samples as over the row
+--     near-part, near-list   where eight samples come from: a part of the row, or one by one
+--     near-mixed             the filters give the same over the eight samples as over the row
 use Prim.Native.Nat.{ℕ, suc, _+_, _-_, _<_, _≤_, min}
 use mathlib.Core.Path.{_≡_, refl, ap, subst, _∙_}
 use mathlib.Core.Logic.{⊎-elim}
@@ -32,11 +32,11 @@ near-part s c h g =
           rw (getD-take, getD-drop) (ap (λ (i : ℕ). getD s i 0) e);
     })
 
--- the eight samples one by one
-unfoldable pub around : List ℕ → ℕ → List ℕ
+-- all eight, and a list that has them one by one
+around : List ℕ → ℕ → List ℕ
 around s c = listOf (λ j. repeated s (c + j)) 8
 
-pub around-near : (s : List ℕ) (c : ℕ) → Near s c (around s c)
+around-near : (s : List ℕ) (c : ℕ) → Near s c (around s c)
 unfolding around
 around-near s c = record { eight = length-listOf (λ j. repeated s (c + j)) 8; at = λ j h. getD-listOf 0 (λ j. repeated s (c + j)) 8 j h }
 
@@ -83,7 +83,7 @@ module _ (s : List ℕ) (c : ℕ) (p : List ℕ) (near : Near s c p) where
       let e : min (3 + j - 3) (length p - 1) ≡ j = omega (arith, near .eight) in
       ap (λ (i : ℕ). getD p i 0) e ∙ near .at j h
 
-  pub near-filtered : (ts : List ℤ) → length ts ≡ 8 → filtered ts p 3 ≡ filtered ts s c
+  near-filtered : (ts : List ℤ) → length ts ≡ 8 → filtered ts p 3 ≡ filtered ts s c
   unfolding filtered
   near-filtered ts n =
       ap (λ (z : ℤ). clipped (shrZ (z +ℤ pos 32) 64)) (same-weighted ts p s 3 c (λ j h. near-at j (omega (arith, n))))

@@ -1,5 +1,5 @@
 -- The signed sums of model/specs/Row in naturals.
---     filtered-parts                  a filter is what its taps add less what they take away, plus 32, divided by 64 and held
+--     filtered-parts                        a filter is what its taps add less what they take away, plus 32, divided by 64 and held
 --     eight-first, eight-half, eight-last   so the three filters, over eight samples, are quarterOf, halfOf and quarterOf read backwards
 use Prim.Native.Nat.{ℕ, suc, _+_, _-_, _*_, _/_}
 use mathlib.Core.Path.{_≡_, refl, ap, _∙_}

@@ -91,7 +91,7 @@ byte-kind Hidden h s t a b c = a
 byte-kind Smooth h s t a b c = b
 byte-kind Torn h s t a b c = c
 
--- what a column shows where it owns
+-- what a column shows anywhere
 pub byte-owned : (l : Line) (x c : ℕ) → Bytes (l .texture) → ownedPixel l c x .sample ≤ greatest
 unfolding ownedPixel pairPixel smoothPixel tornPixel lastPixel
 byte-owned l x c h =

@@ -25,7 +25,7 @@ fn reaches(x: u32, m: u32) -> u32
     (m <= x) as u32
 }
 
-// The mixing step t quarters into a smooth pair, (8 × t + gap) div (2 × gap): how many multiples of 2 × gap are reached. A gap of 4, that of
+// The step k, t quarters into a smooth pair, (8 × t + gap) div (2 × gap): how many multiples of 2 × gap are reached. A gap of 4, that of
 // equal depths, is by far the commonest, and there the step is t.
 fn step_of(t: u32, gap: u32) -> u32
     requires { ⌜ (t < gap) × (gap < 65536) ⌝ }
