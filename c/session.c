@@ -1,5 +1,5 @@
 /*
- * The small session of document 01 (cases k, l and m), reports, refused calls and a drawn row (case g), from C.
+ * The small session of document 01 (cases k, l and m), reports, refused calls and drawn rows (case g and card 7's), from C.
  * Its output is compared with session.out. It compiles as C99 and as C++.
  */
 #include <stdio.h>
@@ -163,14 +163,20 @@ static void nulls(luph_settings *s, const luph_pictures *p, const luph_planes *q
     print_check(s, p, q);
 }
 
-/* Case g: a torn pair, whose far side fills the gap. */
-static void row(const luph_settings *s) {
-    static const uint8_t depths[W] = {0, 0, 5, 0};
+/* One row of the left view. */
+static void print_drawn(const luph_settings *s, const uint8_t *depths) {
     uint8_t samples[W], fronts[W], packed[1];
     const int number = luph_render(s, 0, in(texture, W), in(depths, W), out(samples, W), out(packed, 1), out(fronts, W));
     printf("render: %d, marks %d\n", number, packed[0]);
     print_row("samples", samples);
     print_row("fronts", fronts);
+}
+
+/* Case g, a torn pair, whose far side fills the gap; and card 7's row, where position 0 shows the near edge of column 2. */
+static void rows(const luph_settings *s) {
+    static const uint8_t torn[W] = {0, 0, 5, 0}, edge[W] = {0, 0, 7, 0};
+    print_drawn(s, torn);
+    print_drawn(s, edge);
 }
 
 int main(void) {
@@ -187,6 +193,6 @@ int main(void) {
     reports(&s, &p, &q);
     refusals(&s, &p, &q);
     nulls(&s, &p, &q);
-    row(&s);
+    rows(&s);
     return 0;
 }

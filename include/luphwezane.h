@@ -226,7 +226,8 @@ LUPH_PRIVATE_APART void luph_private_fill(luph_private_copy *x, const luph_pictu
 
 /*
  * RENDER: draws one row of one view, with that view's table, into samples, packed marks and front depths. A sample
- * between two columns of one surface is interpolated by the H.265 luma filters, in quarters. texture,
+ * between two columns of one surface is interpolated by the H.265 luma filters, in quarters; the edge of a near
+ * object that hides columns begins at the rounded place, with the object's sample and depth and no mark. texture,
  * depth, sample and front have s->w entries, marks (s->w + 7) / 8; s->h, share, tolerance and total are not looked
  * at. Refuses 1 (by w alone), 2, 3, then 6.
  */

@@ -14,7 +14,8 @@ pub struct Row {
 }
 
 /// Draws one row of one view with that view's table. A sample between two columns of one surface is interpolated by the H.265
-/// luma filters, in quarters.
+/// luma filters, in quarters; the edge of a near object that hides columns begins at the rounded place, with the object's sample
+/// and depth and no mark.
 ///
 /// Texture and depths have `settings.w` entries; h, share, tolerance and total are not looked at.
 ///

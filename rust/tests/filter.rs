@@ -39,7 +39,7 @@ impl Reached {
         let w = row.w();
         for p in 0..w {
             let c = row.owner(p);
-            if c == w - 1 || row.gap(c) > 8 {
+            if c == w - 1 || row.gap(c) > 8 || row.near_edge(p).is_some() {
                 continue;
             }
             let k = paper::step(4 * p as i32 - row.place(c), row.gap(c));

@@ -26,7 +26,7 @@ struct Call {
 impl Call {
     /// A call that is accepted, on a session just opened.
     fn accepted(random: &mut Random) -> Call {
-        let widest = random.pick(&[9, 9, 9, 9, 40, 40, 40, 40, 40, 140]);
+        let widest = if random.once_in(200) { 600 } else { random.pick(&[9, 9, 9, 9, 40, 40, 40, 40, 40, 140]) };
         let (w, h) = (random.between(1, widest), random.between(1, 6));
         let (share, tolerance) = (random.between(0, 64) as u8, random.byte());
         let scene = Scene::sized(random, w, h, share, tolerance);
@@ -34,7 +34,7 @@ impl Call {
         let mut planes = GuardedPlanes::new(random, w, h, scene.depths());
         lent::open(&mut settings, &scene.pictures(), &mut planes.lent()).expect("OPEN accepts it");
         let view = random.between(0, 1);
-        let block = random::block(random, w, h);
+        let block = random::edited_block(random, &settings, view, &scene.depths[view]);
         let candidate = random::candidate(random, w, &scene.depths[view], block);
         Call {
             settings,
@@ -282,7 +282,7 @@ fn garbage_planes() {
         } else {
             for _ in 0..random.between(1, 8) {
                 let limits = call.planes.limits[random.between(0, 1)].entries_mut();
-                limits[random.between(0, w * h - 1)] = random.next() as i16;
+                limits[random.between(0, w * h - 1)] = random::garbage_limit(random);
             }
         }
         call.settings.total = random.pick(&[0, call.settings.total, 65025 * (w * h) as u64 / 2, u64::MAX]);
@@ -290,9 +290,9 @@ fn garbage_planes() {
             questions(&call);
             edit(&mut call);
             call.view = random.between(0, 1) as u32;
-            call.block = random::block(random, w, h);
-            let candidate = random::candidate(random, w, call.planes.shared().depths[call.view as usize], call.block);
-            call.candidate = Guarded::new(&candidate, 0x3c);
+            let depths = call.planes.shared().depths[call.view as usize];
+            call.block = random::edited_block(random, &call.settings, call.view as usize, depths);
+            call.candidate = Guarded::new(&random::candidate(random, w, depths, call.block), 0x3c);
         }
         opened(call);
     });

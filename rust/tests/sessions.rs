@@ -138,10 +138,10 @@ impl Run {
     }
 
     fn any_edit(&self, random: &mut Random) -> (View, Block, Vec<u8>) {
-        let (w, h) = (self.settings.w as usize, self.settings.h as usize);
         let view = random.pick(&View::BOTH);
-        let block = random::block(random, w, h);
-        (view, block, random::candidate(random, w, &self.record[view as usize], block))
+        let depths = &self.record[view as usize];
+        let block = random::edited_block(random, &self.settings, view as usize, depths);
+        (view, block, random::candidate(random, self.settings.w as usize, depths, block))
     }
 
     /// Several candidates for one block: the best is set, or all are dropped.

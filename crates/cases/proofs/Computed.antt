@@ -1,4 +1,4 @@
--- The definitions that the small rows do not reach compute too: packed marks, hole counts, every filter, and, on the session of document 01
+-- The definitions that the small rows do not reach compute too: packed marks, hole counts, every filter, near edges, and, on the session of document 01
 -- (4 × 1, depths 0), spans, refusals and CHECK's report.
 use Prim.Native.Nat.{ℕ}
 use mathlib.Core.Path.{_≡_, refl}
@@ -11,13 +11,13 @@ use Rattle.model.specs.declared.Block.{Block}
 use Rattle.model.specs.declared.Report.{Report}
 use Rattle.model.specs.declared.Report.the-variants.{Sound, Difference, Total}
 use Rattle.model.specs.Lists.{listOf, listFrom, rows, rowOf, sumTo}
-use Rattle.model.specs.Row.{line, place, least, limit, owner, kindOf, stepOf, taps1, taps2, taps3, repeated, weighted, filtered, mixed, smoothPixel, tornPixel, lastPixel, pairPixel, ownedPixel, pixelAt, limitAt, leftRow}
+use Rattle.model.specs.Row.{Row, line, place, least, limit, owner, kindOf, stepOf, taps1, taps2, taps3, repeated, weighted, filtered, mixed, smoothPixel, tornPixel, lastPixel, pairPixel, ownedPixel, placedAt, nearEdge, shownPixel, pixelAt, limitAt, leftRow}
 use Rattle.model.specs.Views.{seen, viewRow, entryOf}
 use Rattle.model.specs.Marks.{packByte, packRow, rowHoles, holesIn}
 use Rattle.model.specs.Combined.{shared, bothShown, bothHoles, combinedOf, squareError}
 use Rattle.model.specs.Planes.{Depths, View, depths, view, held, withTotal}
 use Rattle.model.specs.Fresh.{freshRow, freshView, freshSample, freshCombined, fresh, totalOf, freshTotal}
-use Rattle.model.specs.Span.{spanLow, spanHigh, inSpan, firstColumn, placesOf, spanHas, limitMoves}
+use Rattle.model.specs.Span.{leastEdited, spanLow, spanHigh, inSpan, firstColumn, placesOf, spanHas, limitMoves}
 use Rattle.model.specs.Reports.{sameMark, sameView, sameAt, firstBad, firstDifference, reportOf}
 use Rattle.model.specs.Refusals.{blockOk, ownThen}
 use Rattle.cases.specs.Cases.{identity, four, settings, opening, images}
@@ -61,17 +61,38 @@ filters :
     × (shown false pair 1 ≡ 52 ∷ 255 ∷ [])
     × (shown false pair 2 ≡ 128 ∷ 255 ∷ [])
     × (shown true pair 3 ≡ 0 ∷ 52 ∷ [])
-unfolding shown edge pair viewRow seen leftRow limitAt pixelAt ownedPixel pairPixel lastPixel tornPixel smoothPixel mixed filtered weighted repeated taps1 taps2 taps3 stepOf kindOf owner limit least place listFrom identity
+unfolding shown edge pair viewRow seen leftRow limitAt pixelAt shownPixel nearEdge placedAt ownedPixel pairPixel lastPixel tornPixel smoothPixel mixed filtered weighted repeated taps1 taps2 taps3 stepOf kindOf owner limit least place listFrom identity
 filters = (refl, refl, refl, refl, refl, refl, refl)
 
--- ---- spans: column 2 from depth 0 to 4 spans from the place of column 1 to the limit of column 3
+-- ---- near edges: of two columns placed at 5 position 1 shows the greater, and its own owner where the place of the column after that is 5 too, or
+-- where the limit is 6; where it would show a torn pair's hole it shows the edge, and no hole
 
-edited : Depths
-edited = depths (0 ∷ 0 ∷ 4 ∷ 0 ∷ []) (0 ∷ 0 ∷ 0 ∷ 0 ∷ [])
+six : List ℕ
+six = 10 ∷ 20 ∷ 30 ∷ 40 ∷ 50 ∷ 60 ∷ []
 
-span-left : listOf (spanHas settings false (block 2 0 1 1) opening edited 0) 4 ≡ false ∷ true ∷ true ∷ false ∷ []
-unfolding edited spanHas inSpan spanLow spanHigh placesOf place least limit firstColumn entryOf seen rowOf settings opening identity listFrom
-span-left = refl
+near : List ℕ → Row
+near d = viewRow false (line identity six d)
+
+edges :
+    (near (0 ∷ 0 ∷ 0 ∷ 7 ∷ 11 ∷ 0 ∷ []) .samples ≡ 10 ∷ 50 ∷ 60 ∷ 60 ∷ 60 ∷ 60 ∷ [])
+    × (near (0 ∷ 0 ∷ 3 ∷ 0 ∷ 11 ∷ 0 ∷ []) .samples ≡ 10 ∷ 20 ∷ 60 ∷ 60 ∷ 60 ∷ 60 ∷ [])
+    × (near (0 ∷ 0 ∷ 0 ∷ 6 ∷ 0 ∷ 0 ∷ []) .samples ≡ 10 ∷ 20 ∷ 50 ∷ 50 ∷ 50 ∷ 60 ∷ [])
+    × (near (0 ∷ 5 ∷ 0 ∷ 7 ∷ 0 ∷ 0 ∷ []) .samples ≡ 20 ∷ 40 ∷ 50 ∷ 50 ∷ 50 ∷ 60 ∷ [])
+    × (near (0 ∷ 5 ∷ 0 ∷ 7 ∷ 0 ∷ 0 ∷ []) .marks ≡ 0 ∷ 0 ∷ 1 ∷ 1 ∷ 0 ∷ 0 ∷ [])
+unfolding near six viewRow seen leftRow limitAt pixelAt shownPixel nearEdge placedAt ownedPixel pairPixel lastPixel tornPixel smoothPixel mixed filtered weighted repeated taps1 taps2 taps3 stepOf kindOf owner limit least place listFrom identity
+edges = (refl, refl, refl, refl, refl)
+
+-- ---- spans: column 2 from depth 0 to 4 spans from a quarter before the place of column 1 to the limit of column 3; to depth 7 from a quarter before
+-- its new place, 1
+
+edited : ℕ → Depths
+edited d = depths (0 ∷ 0 ∷ d ∷ 0 ∷ []) (0 ∷ 0 ∷ 0 ∷ 0 ∷ [])
+
+spans-left :
+    (listOf (spanHas settings false (block 2 0 1 1) opening (edited 4) 0) 4 ≡ false ∷ true ∷ true ∷ false ∷ [])
+    × (listOf (spanHas settings false (block 2 0 1 1) opening (edited 7) 0) 4 ≡ true ∷ true ∷ true ∷ false ∷ [])
+unfolding edited spanHas inSpan leastEdited spanLow spanHigh placesOf place least limit firstColumn entryOf seen rowOf settings opening identity listFrom
+spans-left = (refl, refl)
 
 limits-left : listOf (limitMoves settings false (block 2 0 1 1)) 4 ≡ true ∷ true ∷ true ∷ false ∷ []
 unfolding limitMoves firstColumn entryOf settings listFrom
@@ -106,5 +127,5 @@ reports :
     × (report settings (0 ∷ []) (10 ∷ 21 ∷ 30 ∷ 41 ∷ []) ≡ Difference 0 1)
     × (report settings (16 ∷ []) four ≡ Difference 0 3)
     × (report (withTotal settings 1) (0 ∷ []) four ≡ Total)
-unfolding report reportOf firstDifference firstBad sameAt sameView sameMark fresh freshView freshRow freshSample freshCombined totalOf freshTotal viewRow seen leftRow limitAt pixelAt ownedPixel pairPixel lastPixel tornPixel smoothPixel mixed filtered weighted repeated taps1 taps2 taps3 stepOf kindOf owner limit least place listFrom rows rowOf sumTo packRow packByte shared bothShown bothHoles combinedOf squareError settings opening images four identity
+unfolding report reportOf firstDifference firstBad sameAt sameView sameMark fresh freshView freshRow freshSample freshCombined totalOf freshTotal viewRow seen leftRow limitAt pixelAt shownPixel nearEdge placedAt ownedPixel pairPixel lastPixel tornPixel smoothPixel mixed filtered weighted repeated taps1 taps2 taps3 stepOf kindOf owner limit least place listFrom rows rowOf sumTo packRow packByte shared bothShown bothHoles combinedOf squareError settings opening images four identity
 reports = (refl, refl, refl, refl)

@@ -1,4 +1,4 @@
--- Document 01, "Small rows and sessions": cases a to m, in one table; d, e, f, k and m as document 02, card 2, has them.
+-- Document 01, "Small rows and sessions": cases a to m, in one table; d, e, f, k and m as document 02, card 2, has them, and the case of card 7.
 use Prim.Native.Nat.{ℕ}
 use Prim.Native.String.{String}
 use mathlib.Core.Bool.{Bool, true, false, _&&_}
@@ -48,15 +48,15 @@ opening = depths zeros zeros
 unfoldable pub images : Pictures
 images = pictures four four four
 
--- left view, column 2
-abbrev column2 : Block
-column2 = record { column = 2; row = 0; width = 1; height = 1 }
+-- left view, one column
+abbrev only : ℕ → Block
+only column = record { column = column; row = 0; width = 1; height = 1 }
 
-abbrev GET : ℕ → ℤ → Step
-GET depth change = record { call = get 0 column2 (depth ∷ []); change = change }
+abbrev GET : ℕ → ℕ → ℤ → Step
+GET column depth change = record { call = get 0 (only column) (depth ∷ []); change = change }
 
-abbrev SET : ℕ → ℤ → Step
-SET depth change = record { call = set 0 column2 (depth ∷ []); change = change }
+abbrev SET : ℕ → ℕ → ℤ → Step
+SET column depth change = record { call = set 0 (only column) (depth ∷ []); change = change }
 
 -- row: view, texture, depths, samples, marks; mix: share, tolerance, left and right depth, left and right sample, combined;
 -- session: calls with their changes, the total at the end
@@ -74,9 +74,12 @@ cases =
     ∷ mix "j, mixed" 32 3 8 5 10 20 15
     ∷ mix "j, left" 32 3 9 5 10 20 10
     ∷ session "total 0" [] 0
-    ∷ session "k" (GET 4 (pos 136) ∷ []) 0
-    ∷ session "l" (GET 5 (pos 100) ∷ []) 0
-    ∷ session "m" (SET 4 (pos 136) ∷ GET 5 (neg 36) ∷ SET 0 (neg 136) ∷ []) 0
+    ∷ session "k" (GET 2 4 (pos 136) ∷ []) 0
+    ∷ session "l" (GET 2 5 (pos 100) ∷ []) 0
+    ∷ session "m" (SET 2 4 (pos 136) ∷ GET 2 5 (neg 36) ∷ SET 2 0 (neg 136) ∷ []) 0
+    ∷ row "card 7" false four (0 ∷ 0 ∷ 7 ∷ 0 ∷ []) (30 ∷ 40 ∷ 40 ∷ 40 ∷ []) (0 ∷ 1 ∷ 1 ∷ 0 ∷ [])
+    ∷ row "card 7, right view" true four (0 ∷ 7 ∷ 0 ∷ 0 ∷ []) (10 ∷ 10 ∷ 10 ∷ 20 ∷ []) (0 ∷ 1 ∷ 1 ∷ 0 ∷ [])
+    ∷ session "card 7, an edge two columns right of the block" (SET 3 11 (pos 900) ∷ SET 1 3 (neg 900) ∷ GET 1 0 (pos 900) ∷ []) 0
     ∷ []
 
 -- ---- the test

@@ -16,19 +16,20 @@ use Rattle.planes.specs.Parts.{splice, Filled, Painted}
 use Rattle.planes.proofs.Splices.{splice-none, put-back}
 use Rattle.planes.proofs.SeenParts.{seen-all}
 use Rattle.marks.specs.Puts.{putMarks}
+use Rattle.pixel.specs.declared.Edge.{Edge}
 use Rattle.row.specs.Drawing.{firstAt, pixelBelow}
 use Rattle.commit.specs.Commit.{partShown, PartDrawn, Redrawn}
 use Rattle.commit.proofs.Shown.{length-shown, none-shown, flags-shown}
 
-module _ (r : Bool) (l : Line) (n start k : ℕ) where
-  shown-is : (g : Pixel → ℕ) {x : List ℕ} (ys : List ℕ) → length ys ≡ k → Filled 0 (λ i. g (pixelBelow l n (start + i))) 0 k x (seen r ys) → ys ≡ partShown g r l n start k
+module _ (r : Bool) (l : Line) (n : ℕ) (edge : Edge) (start k : ℕ) where
+  shown-is : (g : Pixel → ℕ) {x : List ℕ} (ys : List ℕ) → length ys ≡ k → Filled 0 (λ i. g (pixelBelow l n edge (start + i))) 0 k x (seen r ys) → ys ≡ partShown g r l n edge start k
   unfolding partShown
-  shown-is g ys e h = seen-all 0 r (λ i. g (pixelBelow l n (start + i))) k ys e h
+  shown-is g ys e h = seen-all 0 r (λ i. g (pixelBelow l n edge (start + i))) k ys e h
 
-  pub part-flags : {x : List ℕ} (ys : List ℕ) → length ys ≡ k → Filled 0 (λ i. pixelBelow l n (start + i) .mark) 0 k x (seen r ys) → Flags ys
-  part-flags ys e h = rw (shown-is (λ q. q .mark) ys e h) (flags-shown r l n start k)
+  pub part-flags : {x : List ℕ} (ys : List ℕ) → length ys ≡ k → Filled 0 (λ i. pixelBelow l n edge (start + i) .mark) 0 k x (seen r ys) → Flags ys
+  part-flags ys e h = rw (shown-is (λ q. q .mark) ys e h) (flags-shown r l n edge start k)
 
-  pub part-drawn : (at : ℕ) (m ys zs ms m′ : List ℕ) {a b c : List ℕ} → length ys ≡ k → length zs ≡ k → length ms ≡ k → Painted (λ i. pixelBelow l n (start + i)) 0 k a b c (seen r ys) (seen r zs) (seen r ms) → m′ ≡ putMarks m at ms (length ms) → PartDrawn r l n start at k m ys zs m′
+  pub part-drawn : (at : ℕ) (m ys zs ms m′ : List ℕ) {a b c : List ℕ} → length ys ≡ k → length zs ≡ k → length ms ≡ k → Painted (λ i. pixelBelow l n edge (start + i)) 0 k a b c (seen r ys) (seen r zs) (seen r ms) → m′ ≡ putMarks m at ms (length ms) → PartDrawn r l n edge start at k m ys zs m′
   part-drawn at m ys zs ms m′ ny nz nm paint em =
       record {
         samples = shown-is (λ q. q .sample) ys ny (paint .samples);
@@ -36,19 +37,19 @@ module _ (r : Bool) (l : Line) (n start k : ℕ) where
         marks = em ∙ rw nm (ap (λ (q : List ℕ). putMarks m at q k) (shown-is (λ q. q .mark) ms nm (paint .marks)));
       }
 
-module _ (r : Bool) (l : Line) (n low high start stop : ℕ) (es : start ≡ firstAt low) (et : stop ≡ firstAt high) (w y : ℕ) (s f m : List ℕ) where
-  pub redrawn-none : stop ≤ start → Redrawn r l w y n low high 0 0 s f m s f m
+module _ (r : Bool) (l : Line) (n low : ℕ) (edge : Edge) (start stop : ℕ) (es : start ≡ firstAt low) (et : stop ≡ firstAt (edge .limit)) (w y : ℕ) (s f m : List ℕ) where
+  pub redrawn-none : stop ≤ start → Redrawn r l w y n low edge 0 0 s f m s f m
   unfolding putMarks
   redrawn-none h =
-      let z : firstAt high - firstAt low ≡ 0 = rw (← es, ← et) (omega arith) in
+      let z : firstAt (edge .limit) - firstAt low ≡ 0 = rw (← es, ← et) (omega arith) in
       record {
         stretched = record { size = rw z; within = omega arith; first = λ u. absurd (omega arith) };
-        samples = rw (z, none-shown (λ q. q .sample) r l n (firstAt low)) (sym (splice-none s (y * w + 0)));
-        fronts = rw (z, none-shown (λ q. q .front) r l n (firstAt low)) (sym (splice-none f (y * w + 0)));
+        samples = rw (z, none-shown (λ q. q .sample) r l n edge (firstAt low)) (sym (splice-none s (y * w + 0)));
+        fronts = rw (z, none-shown (λ q. q .front) r l n edge (firstAt low)) (sym (splice-none f (y * w + 0)));
         marks = rw z;
       }
 
-  pub redrawn-some : (at k : ℕ) (ys zs : List ℕ) {m′ : List ℕ} → k ≡ stop - start → at ≡ firstColumn r w start (stop - start) → at + (stop - start) ≤ w → PartDrawn r l n start at k m ys zs m′ → Redrawn r l w y n low high at (at + (stop - start)) s f m (take (y * w + at) s ++ (ys ++ drop (y * w + at + (stop - start) - (y * w + at)) (drop (y * w + at) s))) (take (y * w + at) f ++ (zs ++ drop (y * w + at + (stop - start) - (y * w + at)) (drop (y * w + at) f))) m′
+  pub redrawn-some : (at k : ℕ) (ys zs : List ℕ) {m′ : List ℕ} → k ≡ stop - start → at ≡ firstColumn r w start (stop - start) → at + (stop - start) ≤ w → PartDrawn r l n edge start at k m ys zs m′ → Redrawn r l w y n low edge at (at + (stop - start)) s f m (take (y * w + at) s ++ (ys ++ drop (y * w + at + (stop - start) - (y * w + at)) (drop (y * w + at) s))) (take (y * w + at) f ++ (zs ++ drop (y * w + at + (stop - start) - (y * w + at)) (drop (y * w + at) f))) m′
   redrawn-some at k ys zs ek ea fits part =
       let h = rw ek at part in
       record {
@@ -58,6 +59,6 @@ module _ (r : Bool) (l : Line) (n low high start stop : ℕ) (es : start ≡ fir
         marks = rw (← es, ← et) (h .marks);
       }
     where
-      back : (g : Pixel → ℕ) (p xs : List ℕ) → xs ≡ partShown g r l n start (stop - start) → take (y * w + at) p ++ (xs ++ drop (y * w + at + (stop - start) - (y * w + at)) (drop (y * w + at) p)) ≡ splice p (y * w + at) (partShown g r l n start (stop - start))
+      back : (g : Pixel → ℕ) (p xs : List ℕ) → xs ≡ partShown g r l n edge start (stop - start) → take (y * w + at) p ++ (xs ++ drop (y * w + at + (stop - start) - (y * w + at)) (drop (y * w + at) p)) ≡ splice p (y * w + at) (partShown g r l n edge start (stop - start))
       back g p xs e =
-          put-back p xs (y * w + at) (stop - start) (ap length e ∙ length-shown g r l n start (stop - start)) ∙ ap (splice p (y * w + at)) e
+          put-back p xs (y * w + at) (stop - start) (ap length e ∙ length-shown g r l n edge start (stop - start)) ∙ ap (splice p (y * w + at)) e

@@ -20,6 +20,7 @@ use Rattle.model.proofs.Choice.{lt-or-le}
 use Rattle.model.proofs.Lists.{length-row, getD-row}
 use Rattle.planes.specs.Parts.{splice}
 use Rattle.planes.proofs.Splices.{length-splice, splice-under, splice-inside, splice-beyond, row-whole, row-other-whole, part-length, put-back}
+use Rattle.pixel.specs.declared.Edge.{Edge}
 use Rattle.commit.specs.Commit.{Rewritten, Limited, Changed, Redrawn, RowRedrawn}
 
 module _ {A : Type 0} where
@@ -94,8 +95,8 @@ rewritten-wide w y x candidate d h k ep e =
     ap length (rw ep at (e .depths)) ∙ length-splice (rowOf d w y) x candidate fits ∙ l
 
 -- depths d and limits e, of which row y was lent, written and put back
-module _ (r : Bool) (t : List ℕ) (w y x first n low high : ℕ) (candidate d row : List ℕ) (e lim : List ℤ) (dfits : y * w + w ≤ length d) (efits : y * w + w ≤ length e) (fits : x + length candidate ≤ w) where
-  pub changed : {part part′ : List ℕ} {held : List ℤ} → part ≡ rowOf d w y → part′ ≡ rowOf (putRow d w y row) w y → held ≡ rowOf e w y → length lim ≡ w → first ≡ firstColumn r w x (x + length candidate - x) → n ≡ first + length candidate → Rewritten r t x first low candidate part row → Limited t (seen r part′) first n high (seen r held) (seen r lim) → Changed r t w y x candidate d (putRow d w y row) e (putRow e w y lim) n low high
+module _ (r : Bool) (t : List ℕ) (w y x first n low : ℕ) (edge : Edge) (candidate d row : List ℕ) (e lim : List ℤ) (dfits : y * w + w ≤ length d) (efits : y * w + w ≤ length e) (fits : x + length candidate ≤ w) where
+  pub changed : {part part′ : List ℕ} {held : List ℤ} → part ≡ rowOf d w y → part′ ≡ rowOf (putRow d w y row) w y → held ≡ rowOf e w y → length lim ≡ w → first ≡ firstColumn r w x (x + length candidate - x) → n ≡ first + length candidate → Rewritten r t x first low candidate part row → Limited t (seen r part′) first n edge (seen r held) (seen r lim) → Changed r t w y x candidate d (putRow d w y row) e (putRow e w y lim) n low edge
   changed ep ep′ ee el ef en h k =
       let m : x + length candidate - x ≡ length candidate = omega arith in
       let ef′ : first ≡ firstColumn r w x (length candidate) = rw m at ef in
@@ -113,8 +114,8 @@ module _ (r : Bool) (t : List ℕ) (w y x first n low high : ℕ) (candidate d r
       }
 
 -- a row of marks m, lent and put back as mr; the rows of texture and depths were lent too
-pub redrawn-row : (r : Bool) (w y n low high from to : ℕ) (t texture d s f m s′ f′ mr : List ℕ) {tr dr m₀ : List ℕ} {width : ℕ} → tr ≡ rowOf texture w y → dr ≡ rowOf d w y → m₀ ≡ rowOf m (markBytes w) y → width ≡ w → y * markBytes w + markBytes w ≤ length m → length mr ≡ markBytes w → Redrawn r (line t (seen r tr) (seen r dr)) width y n low high from to s f m₀ s′ f′ mr → RowRedrawn r (line t (seen r (rowOf texture w y)) (seen r (rowOf d w y))) w y n low high from to s f m s′ f′ (putRow m (markBytes w) y mr)
-redrawn-row r w y n low high from to t texture d s f m s′ f′ mr et ed em ew fits wide h =
+pub redrawn-row : (r : Bool) (w y n low : ℕ) (edge : Edge) (from to : ℕ) (t texture d s f m s′ f′ mr : List ℕ) {tr dr m₀ : List ℕ} {width : ℕ} → tr ≡ rowOf texture w y → dr ≡ rowOf d w y → m₀ ≡ rowOf m (markBytes w) y → width ≡ w → y * markBytes w + markBytes w ≤ length m → length mr ≡ markBytes w → Redrawn r (line t (seen r tr) (seen r dr)) width y n low edge from to s f m₀ s′ f′ mr → RowRedrawn r (line t (seen r (rowOf texture w y)) (seen r (rowOf d w y))) w y n low edge from to s f m s′ f′ (putRow m (markBytes w) y mr)
+redrawn-row r w y n low edge from to t texture d s f m s′ f′ mr et ed em ew fits wide h =
     record {
       drawn = rw (row-put 0 m mr (markBytes w) y fits wide) (rw (et, ed, em, ew) at h);
       others = other-put 0 m mr (markBytes w) y fits wide;

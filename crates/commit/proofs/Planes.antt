@@ -3,7 +3,7 @@
 --     row-commits        every row that was sound is sound, and nothing outside the span's entries of the one row is drawn anew
 use Prim.Native.Nat.{ℕ, _+_, _*_, _<_, _≤_}
 use mathlib.Core.Path.{_≡_, refl, sym, ap, subst, _∙_}
-use mathlib.Core.Bool.{Bool}
+use mathlib.Core.Bool.{Bool, true}
 use mathlib.Core.Logic.{⊎-elim, _⊎_, inl, inr}
 use mathlib.Core.List.{List, append-assoc}
 use native.Mathlib.Omega.{arith}
@@ -23,6 +23,8 @@ use Rattle.model.proofs.Packing.{Flags, mark-packRow}
 use Rattle.model.proofs.Fresh.{flags-view}
 use Rattle.planes.specs.Parts.{splice}
 use Rattle.planes.proofs.Splices.{splice-under, splice-beyond, row-splice, row-other}
+use Rattle.model.specs.Refusals.{tableOk}
+use Rattle.pixel.specs.declared.Edge.{Edge}
 use Rattle.marks.specs.Puts.{putMarks, heldPixel}
 use Rattle.marks.proofs.Puts.{put-packRow}
 use Rattle.commit.specs.Commit.{Sized, RowIn, drawnRow, SoundRow, heldIn, Changed, spanShown, RowRedrawn, RowCommitted}
@@ -64,10 +66,11 @@ same-row k y =
     ⊎-elim (λ u. inr (λ e. omega arith))
     (λ u. ⊎-elim (λ v. inr (λ e. omega arith)) (λ v. let e : k ≡ y = omega arith in inl e) (lt-or-le y k)) (lt-or-le k y)
 
-module _ (r : Bool) (t texture : List ℕ) (w y x n low high from to : ℕ) (candidate d d′ : List ℕ) (v v′ : View) (size : RowIn w y texture d v) (most : w ≤ 4096) (some : 0 < length candidate) (fits : x + length candidate ≤ w) (same : length (v′ .limits) ≡ length (v .limits)) (change : Changed r t w y x candidate d d′ (v .limits) (v′ .limits) n low high) (redraw : RowRedrawn r (line t (seen r (rowOf texture w y)) (seen r (rowOf d′ w y))) w y n low high from to (v .samples) (v .fronts) (v .marks) (v′ .samples) (v′ .fronts) (v′ .marks)) where
-  step : RowStep r t w x n low high from to candidate (rowOf d w y) (rowOf d′ w y) (rowOf (v .limits) w y) (rowOf (v′ .limits) w y)
+module _ (r : Bool) (t texture : List ℕ) (w y x n low : ℕ) (edge : Edge) (from to : ℕ) (candidate d d′ : List ℕ) (v v′ : View) (table : tableOk t ≡ true) (size : RowIn w y texture d v) (most : w ≤ 4096) (some : 0 < length candidate) (fits : x + length candidate ≤ w) (same : length (v′ .limits) ≡ length (v .limits)) (change : Changed r t w y x candidate d d′ (v .limits) (v′ .limits) n low edge) (redraw : RowRedrawn r (line t (seen r (rowOf texture w y)) (seen r (rowOf d′ w y))) w y n low edge from to (v .samples) (v .fronts) (v .marks) (v′ .samples) (v′ .fronts) (v′ .marks)) where
+  step : RowStep r t w x n low edge from to candidate (rowOf d w y) (rowOf d′ w y) (rowOf (v .limits) w y) (rowOf (v′ .limits) w y)
   step =
       record {
+        table = table;
         wide = length-row d w y (size .depths);
         most = most;
         some = some;
@@ -82,16 +85,16 @@ module _ (r : Bool) (t texture : List ℕ) (w y x n low high from to : ℕ) (can
         stretched = redraw .drawn .stretched;
       }
 
-  fit : (g : Pixel → ℕ) → from + length (spanShown g r (line t (seen r (rowOf texture w y)) (seen r (rowOf d′ w y))) n low high) ≤ w
+  fit : (g : Pixel → ℕ) → from + length (spanShown g r (line t (seen r (rowOf texture w y)) (seen r (rowOf d′ w y))) n low edge) ≤ w
   fit g = shown-fits step g (rowOf texture w y)
 
   -- the row's planes of samples and fronts
-  samples-row : rowOf (v′ .samples) w y ≡ splice (rowOf (v .samples) w y) from (spanShown (λ q. q .sample) r (line t (seen r (rowOf texture w y)) (seen r (rowOf d′ w y))) n low high)
+  samples-row : rowOf (v′ .samples) w y ≡ splice (rowOf (v .samples) w y) from (spanShown (λ q. q .sample) r (line t (seen r (rowOf texture w y)) (seen r (rowOf d′ w y))) n low edge)
   samples-row =
       ap (λ (l : List ℕ). rowOf l w y) (redraw .drawn .samples)
       ∙ row-splice 0 (v .samples) w y from _ (size .samples) (fit (λ q. q .sample))
 
-  fronts-row : rowOf (v′ .fronts) w y ≡ splice (rowOf (v .fronts) w y) from (spanShown (λ q. q .front) r (line t (seen r (rowOf texture w y)) (seen r (rowOf d′ w y))) n low high)
+  fronts-row : rowOf (v′ .fronts) w y ≡ splice (rowOf (v .fronts) w y) from (spanShown (λ q. q .front) r (line t (seen r (rowOf texture w y)) (seen r (rowOf d′ w y))) n low edge)
   fronts-row =
       ap (λ (l : List ℕ). rowOf l w y) (redraw .drawn .fronts)
       ∙ row-splice 0 (v .fronts) w y from _ (size .fronts) (fit (λ q. q .front))
@@ -100,13 +103,13 @@ module _ (r : Bool) (t texture : List ℕ) (w y x n low high from to : ℕ) (can
     marks-wide : length (drawnRow r t texture w d y .marks) ≡ w
     marks-wide = length-view-marks r (line t (rowOf texture w y) (rowOf d w y)) ∙ step .wide
 
-    marks-row : rowOf (v′ .marks) (markBytes w) y ≡ packRow (markBytes w) (splice (drawnRow r t texture w d y .marks) from (spanShown (λ q. q .mark) r (line t (seen r (rowOf texture w y)) (seen r (rowOf d′ w y))) n low high))
+    marks-row : rowOf (v′ .marks) (markBytes w) y ≡ packRow (markBytes w) (splice (drawnRow r t texture w d y .marks) from (spanShown (λ q. q .mark) r (line t (seen r (rowOf texture w y)) (seen r (rowOf d′ w y))) n low edge))
     marks-row =
         redraw .drawn .marks
         ∙ rw (s .marks)
         (marks-spliced w from _ (drawnRow r t texture w d y .marks) _ (flags-view r (line t (rowOf texture w y) (rowOf d w y)))
-        (flags-shown r (line t (seen r (rowOf texture w y)) (seen r (rowOf d′ w y))) n _ _) marks-wide
-        (length-shown (λ q. q .mark) r (line t (seen r (rowOf texture w y)) (seen r (rowOf d′ w y))) n _ _) (fit (λ q. q .mark)))
+        (flags-shown r (line t (seen r (rowOf texture w y)) (seen r (rowOf d′ w y))) n edge _ _) marks-wide
+        (length-shown (λ q. q .mark) r (line t (seen r (rowOf texture w y)) (seen r (rowOf d′ w y))) n edge _ _) (fit (λ q. q .mark)))
 
     sound-here : SoundRow r t texture w d′ v′ y
     unfolding viewRow leftRow
@@ -130,7 +133,7 @@ module _ (r : Bool) (t texture : List ℕ) (w y x n low high from to : ℕ) (can
         mark-here d′ (rowOf (v′ .marks) (markBytes w) y) i (sound-here .marks) h
         ∙ ap (λ (q : List ℕ). getD q i 0) (sym (plane-new step (rowOf texture w y) (s .limits) (λ q. q .mark) (drawnRow r t texture w d y .marks) refl))
         ∙ outside _ _ from to _ i (rw marks-wide (fit (λ q. q .mark)))
-        (length-shown (λ q. q .mark) r (line t (seen r (rowOf texture w y)) (seen r (rowOf d′ w y))) n _ _) (redraw .drawn .stretched .size) out
+        (length-shown (λ q. q .mark) r (line t (seen r (rowOf texture w y)) (seen r (rowOf d′ w y))) n edge _ _) (redraw .drawn .stretched .size) out
         ∙ sym (mark-here d (rowOf (v .marks) (markBytes w) y) i (s .marks) h)
 
     kept-here : (i : ℕ) → i < w → (i < from) ⊎ (to ≤ i) → heldIn w v′ y i ≡ heldIn w v y i
@@ -140,11 +143,11 @@ module _ (r : Bool) (t texture : List ℕ) (w y x n low high from to : ℕ) (can
         let es : getD (rowOf (v′ .samples) w y) i 0 ≡ getD (rowOf (v .samples) w y) i 0 =
         ap (λ (q : List ℕ). getD q i 0) samples-row
         ∙ outside _ _ from to _ i (rw (length-row (v .samples) w y (size .samples)) (fit (λ q. q .sample)))
-        (length-shown (λ q. q .sample) r l n _ _) (redraw .drawn .stretched .size) out in
+        (length-shown (λ q. q .sample) r l n edge _ _) (redraw .drawn .stretched .size) out in
         let ef : getD (rowOf (v′ .fronts) w y) i 0 ≡ getD (rowOf (v .fronts) w y) i 0 =
         ap (λ (q : List ℕ). getD q i 0) fronts-row
         ∙ outside _ _ from to _ i (rw (length-row (v .fronts) w y (size .fronts)) (fit (λ q. q .front)))
-        (length-shown (λ q. q .front) r l n _ _) (redraw .drawn .stretched .size) out in
+        (length-shown (λ q. q .front) r l n edge _ _) (redraw .drawn .stretched .size) out in
         let em = marks-kept i h out in
         rw (es, ef, em)
 

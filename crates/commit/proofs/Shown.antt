@@ -20,6 +20,7 @@ use Rattle.model.proofs.Packing.{Flags}
 use Rattle.planes.specs.Parts.{splice, Filled}
 use Rattle.planes.proofs.Splices.{splice-none}
 use Rattle.planes.proofs.SeenParts.{seen-filled}
+use Rattle.pixel.specs.declared.Edge.{Edge}
 use Rattle.row.specs.Drawing.{firstAt, pixelBelow}
 use Rattle.row.proofs.Below.{flag-below}
 use Rattle.commit.specs.Commit.{partShown, spanShown}
@@ -37,41 +38,41 @@ flags-seen r l h k =
     (lt-or-le k (length l))
 
 -- no positions show nothing
-pub none-shown : (g : Pixel → ℕ) (r : Bool) (l : Line) (n start : ℕ) → partShown g r l n start 0 ≡ []
+pub none-shown : (g : Pixel → ℕ) (r : Bool) (l : Line) (n : ℕ) (edge : Edge) (start : ℕ) → partShown g r l n edge start 0 ≡ []
 unfolding partShown seen listFrom
-none-shown g true l n start = refl
-none-shown g false l n start = refl
+none-shown g true l n edge start = refl
+none-shown g false l n edge start = refl
 
-pub flags-shown : (r : Bool) (l : Line) (n start k : ℕ) → Flags (partShown (λ q. q .mark) r l n start k)
+pub flags-shown : (r : Bool) (l : Line) (n : ℕ) (edge : Edge) (start k : ℕ) → Flags (partShown (λ q. q .mark) r l n edge start k)
 unfolding partShown
-flags-shown r l n start k = flags-seen r _ (flags-listOf _ k (λ i. flag-below l n (start + i)))
+flags-shown r l n edge start k = flags-seen r _ (flags-listOf _ k (λ i. flag-below l n edge (start + i)))
 
-module _ (g : Pixel → ℕ) (r : Bool) (l : Line) (n : ℕ) where
-  pub length-shown : (start k : ℕ) → length (partShown g r l n start k) ≡ k
+module _ (g : Pixel → ℕ) (r : Bool) (l : Line) (n : ℕ) (edge : Edge) where
+  pub length-shown : (start k : ℕ) → length (partShown g r l n edge start k) ≡ k
   unfolding partShown
   length-shown start k = length-seen-list r _ k
 
-  shown-at : (start k i : ℕ) → i < k → getD (seen r (partShown g r l n start k)) i 0 ≡ g (pixelBelow l n (start + i))
+  shown-at : (start k i : ℕ) → i < k → getD (seen r (partShown g r l n edge start k)) i 0 ≡ g (pixelBelow l n edge (start + i))
   unfolding partShown
   shown-at start k i h =
-      rw (seen-seen r (listOf (λ j. g (pixelBelow l n (start + j))) k)) (getD-listOf 0 (λ j. g (pixelBelow l n (start + j))) k i h)
+      rw (seen-seen r (listOf (λ j. g (pixelBelow l n edge (start + j))) k)) (getD-listOf 0 (λ j. g (pixelBelow l n edge (start + j))) k i h)
 
   -- a row with the span's values put in, as the view reads it
-  pub shown-filled : (low high w from : ℕ) (row : List ℕ) → length row ≡ w → firstAt high ≤ w → (firstAt low < firstAt high → from ≡ firstColumn r w (firstAt low) (firstAt high - firstAt low)) → Filled 0 (λ p. g (pixelBelow l n p)) (firstAt low) (firstAt high) (seen r row) (seen r (splice row from (spanShown g r l n low high)))
-  shown-filled low high w from row e k first =
-      let size = length-shown (firstAt low) (firstAt high - firstAt low) in
+  pub shown-filled : (low w from : ℕ) (row : List ℕ) → length row ≡ w → firstAt (edge .limit) ≤ w → (firstAt low < firstAt (edge .limit) → from ≡ firstColumn r w (firstAt low) (firstAt (edge .limit) - firstAt low)) → Filled 0 (λ p. g (pixelBelow l n edge p)) (firstAt low) (firstAt (edge .limit)) (seen r row) (seen r (splice row from (spanShown g r l n low edge)))
+  shown-filled low w from row e k first =
+      let size = length-shown (firstAt low) (firstAt (edge .limit) - firstAt low) in
       ⊎-elim
       (λ u.
-      let m : firstAt low + length (spanShown g r l n low high) ≡ firstAt high = rw size (whole u) in
-      rw m at (seen-filled 0 (λ p. g (pixelBelow l n p)) r row (spanShown g r l n low high) (firstAt low) from (rw (m, e) k)
-      (rw (e, size) (first u)) (λ i h. shown-at (firstAt low) (firstAt high - firstAt low) i (rw size at h))))
+      let m : firstAt low + length (spanShown g r l n low edge) ≡ firstAt (edge .limit) = rw size (whole u) in
+      rw m at (seen-filled 0 (λ p. g (pixelBelow l n edge p)) r row (spanShown g r l n low edge) (firstAt low) from (rw (m, e) k)
+      (rw (e, size) (first u)) (λ i h. shown-at (firstAt low) (firstAt (edge .limit) - firstAt low) i (rw size at h))))
       (λ u.
-      rw (none u, none-shown g r l n (firstAt low), splice-none row from)
+      rw (none u, none-shown g r l n edge (firstAt low), splice-none row from)
       (record { inside = λ p a b. absurd (omega arith); under = λ p a. refl; beyond = λ p a. refl }))
-      (lt-or-le (firstAt low) (firstAt high))
+      (lt-or-le (firstAt low) (firstAt (edge .limit)))
     where
-      whole : firstAt low < firstAt high → firstAt low + (firstAt high - firstAt low) ≡ firstAt high
+      whole : firstAt low < firstAt (edge .limit) → firstAt low + (firstAt (edge .limit) - firstAt low) ≡ firstAt (edge .limit)
       whole u = omega arith
 
-      none : firstAt high ≤ firstAt low → firstAt high - firstAt low ≡ 0
+      none : firstAt (edge .limit) ≤ firstAt low → firstAt (edge .limit) - firstAt low ≡ 0
       none u = omega arith

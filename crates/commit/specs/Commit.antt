@@ -17,9 +17,9 @@ use Rattle.model.specs.Planes.{View, viewRows}
 use Rattle.model.specs.Span.{spanLow, firstColumn}
 use Rattle.planes.specs.Parts.{splice, Filled}
 use Rattle.signed.specs.Limits.{raisedOf}
-use Rattle.pixel.specs.Pairs.{nextPlace}
+use Rattle.pixel.specs.declared.Edge.{Edge}
 use Rattle.marks.specs.Puts.{putMarks, heldPixel}
-use Rattle.row.specs.Drawing.{firstAt, spanTop, pixelBelow, limitBelow, Ready}
+use Rattle.row.specs.Drawing.{firstAt, spanTop, pixelBelow, limitBelow, EdgeHeld, Edged, Ready}
 
 -- ---- the planes of a view
 
@@ -76,47 +76,48 @@ pub record Relimited (t d : List ℕ) (a n high : ℕ) (e e′ : List ℤ) : Typ
   pub written : Filled (pos 0) (λ c. signed (limitBelow (place t d) high n c)) stop n e e′
   pub settled : 0 < stop → raisedOf (getD e (stop - 1) (pos 0)) ≡ limitBelow (place t d) high n (stop - 1)
 
--- the high end, and the limits with it
-pub record Limited (t d : List ℕ) (a n high : ℕ) (e e′ : List ℤ) : Type 0 where
-  pub top : high ≡ spanTop t d e n
-  pub limits : Relimited t d a n high e e′
+-- the edge right of the columns below n, with the high end, and the limits with it
+pub record Limited (t d : List ℕ) (a n : ℕ) (edge : Edge) (e e′ : List ℤ) : Type 0 where
+  pub top : EdgeHeld e n (spanTop t d e n) edge
+  pub limits : Relimited t d a n (edge .limit) e e′
 
 -- Row y of the depths d and of the limits e, with the candidate written from column x on: n is the column after the candidate's last, as
--- the view reads the row, and the span runs from low to high.
-pub record Changed (right : Bool) (t : List ℕ) (w y x : ℕ) (candidate d d′ : List ℕ) (e e′ : List ℤ) (n low high : ℕ) : Type 0 where
+-- the view reads the row, and the span runs from low to the limit of the edge.
+pub record Changed (right : Bool) (t : List ℕ) (w y x : ℕ) (candidate d d′ : List ℕ) (e e′ : List ℤ) (n low : ℕ) (edge : Edge) : Type 0 where
   pub columns : n ≡ firstColumn right w x (length candidate) + length candidate
   pub depths : d′ ≡ splice d (y * w + x) candidate
   pub bottom : low ≡ spanLow (place t (seen right (rowOf d w y))) (place t (seen right (rowOf d′ w y))) (firstColumn right w x (length candidate)) (n - 1)
-  pub top : high ≡ spanTop t (seen right (rowOf d′ w y)) (seen right (rowOf e w y)) n
-  pub limits : Relimited t (seen right (rowOf d′ w y)) (firstColumn right w x (length candidate)) n high (seen right (rowOf e w y)) (seen right (rowOf e′ w y))
+  pub top : EdgeHeld (seen right (rowOf e w y)) n (spanTop t (seen right (rowOf d′ w y)) (seen right (rowOf e w y)) n) edge
+  pub limits : Relimited t (seen right (rowOf d′ w y)) (firstColumn right w x (length candidate)) n (edge .limit) (seen right (rowOf e w y)) (seen right (rowOf e′ w y))
   pub others : (k : ℕ) → (k ≡ y → ⊥) → rowOf e′ w k ≡ rowOf e w k
 
 -- ---- the span of a row
 
--- Positions from `start` on can be drawn into parts of just that stretch, from the columns below n, and their marks can be put from entry
--- `at` on.
-pub record Drawable (right : Bool) (t texture d : List ℕ) (n start at : ℕ) (s f m : List ℕ) : Type 0 where
+-- Positions from `start` on can be drawn into parts of just that stretch, from the columns below n and the edge right of them, and their marks
+-- can be put from entry `at` on.
+pub record Drawable (right : Bool) (t texture d : List ℕ) (n : ℕ) (edge : Edge) (start at : ℕ) (s f m : List ℕ) : Type 0 where
   pub ready : Ready (line t texture d)
   pub some : 0 < n
   pub columns : n ≤ length d
-  pub before : start + length s ≤ firstAt (nextPlace t (seen right d) (n - 1))
+  pub edged : Edged t (seen right d) n edge
+  pub before : start + length s ≤ firstAt (edge .limit)
   pub fronts : length f ≡ length s
   pub marks : at + length s ≤ 8 * length m
   pub most : at + length s ≤ 4096
 
--- what k positions from `start` on show, drawn from the columns below n, in the order of the row's entries
-unfoldable pub partShown : (Pixel → ℕ) → Bool → Line → ℕ → ℕ → ℕ → List ℕ
-partShown g right l n start k = seen right (listOf (λ i. g (pixelBelow l n (start + i))) k)
+-- what k positions from `start` on show, drawn from the columns below n and the edge right of them, in the order of the row's entries
+unfoldable pub partShown : (Pixel → ℕ) → Bool → Line → ℕ → Edge → ℕ → ℕ → List ℕ
+partShown g right l n edge start k = seen right (listOf (λ i. g (pixelBelow l n edge (start + i))) k)
 
 -- They are drawn, and their marks put into the row of marks m from entry `at` on.
-pub record PartDrawn (right : Bool) (l : Line) (n start at k : ℕ) (m s′ f′ m′ : List ℕ) : Type 0 where
-  pub samples : s′ ≡ partShown (λ q. q .sample) right l n start k
-  pub fronts : f′ ≡ partShown (λ q. q .front) right l n start k
-  pub marks : m′ ≡ putMarks m at (partShown (λ q. q .mark) right l n start k) k
+pub record PartDrawn (right : Bool) (l : Line) (n : ℕ) (edge : Edge) (start at k : ℕ) (m s′ f′ m′ : List ℕ) : Type 0 where
+  pub samples : s′ ≡ partShown (λ q. q .sample) right l n edge start k
+  pub fronts : f′ ≡ partShown (λ q. q .front) right l n edge start k
+  pub marks : m′ ≡ putMarks m at (partShown (λ q. q .mark) right l n edge start k) k
 
--- what the span from low to high shows
-abbrev pub spanShown : (Pixel → ℕ) → Bool → Line → ℕ → ℕ → ℕ → List ℕ
-spanShown g right l n low high = partShown g right l n (firstAt low) (firstAt high - firstAt low)
+-- what the span from low to the limit of the edge shows
+abbrev pub spanShown : (Pixel → ℕ) → Bool → Line → ℕ → ℕ → Edge → List ℕ
+spanShown g right l n low edge = partShown g right l n edge (firstAt low) (firstAt (edge .limit) - firstAt low)
 
 -- The span's entries, `from` up to `to`, in a row of w; an empty span has none.
 pub record Stretched (right : Bool) (w low high from to : ℕ) : Type 0 where
@@ -125,15 +126,15 @@ pub record Stretched (right : Bool) (w low high from to : ℕ) : Type 0 where
   pub first : firstAt low < firstAt high → from ≡ firstColumn right w (firstAt low) (firstAt high - firstAt low)
 
 -- The span is drawn into row y of the samples and fronts, and its marks are put into the row of marks m.
-pub record Redrawn (right : Bool) (l : Line) (w y n low high from to : ℕ) (s f m s′ f′ m′ : List ℕ) : Type 0 where
-  pub stretched : Stretched right w low high from to
-  pub samples : s′ ≡ splice s (y * w + from) (spanShown (λ q. q .sample) right l n low high)
-  pub fronts : f′ ≡ splice f (y * w + from) (spanShown (λ q. q .front) right l n low high)
-  pub marks : m′ ≡ putMarks m from (spanShown (λ q. q .mark) right l n low high) (firstAt high - firstAt low)
+pub record Redrawn (right : Bool) (l : Line) (w y n low : ℕ) (edge : Edge) (from to : ℕ) (s f m s′ f′ m′ : List ℕ) : Type 0 where
+  pub stretched : Stretched right w low (edge .limit) from to
+  pub samples : s′ ≡ splice s (y * w + from) (spanShown (λ q. q .sample) right l n low edge)
+  pub fronts : f′ ≡ splice f (y * w + from) (spanShown (λ q. q .front) right l n low edge)
+  pub marks : m′ ≡ putMarks m from (spanShown (λ q. q .mark) right l n low edge) (firstAt (edge .limit) - firstAt low)
 
 -- The same, with the plane of marks: no other row of it changes.
-pub record RowRedrawn (right : Bool) (l : Line) (w y n low high from to : ℕ) (s f m s′ f′ m′ : List ℕ) : Type 0 where
-  pub drawn : Redrawn right l w y n low high from to s f (rowOf m (markBytes w) y) s′ f′ (rowOf m′ (markBytes w) y)
+pub record RowRedrawn (right : Bool) (l : Line) (w y n low : ℕ) (edge : Edge) (from to : ℕ) (s f m s′ f′ m′ : List ℕ) : Type 0 where
+  pub drawn : Redrawn right l w y n low edge from to s f (rowOf m (markBytes w) y) s′ f′ (rowOf m′ (markBytes w) y)
   pub others : (k : ℕ) → (k ≡ y → ⊥) → rowOf m′ (markBytes w) k ≡ rowOf m (markBytes w) k
 
 -- Row y of one view is committed: the candidate stands at its column x, and every row that was sound is sound again. No other row changes,

@@ -1,4 +1,5 @@
 // What SET writes of one view, row by row: the depths, the limits up to the block, and the span of samples, front depths and marks.
+use pixel::Edge;
 ghost use mathlib.Core.Path.{_≡_};
 ghost use mathlib.Core.Bool.{true};
 ghost use Prim.Native.Nat.{_+_, _-_, _*_, _≤_, _<_};
@@ -9,15 +10,15 @@ ghost use Rattle.model.specs.Views.{seen};
 ghost use Rattle.model.specs.Marks.{markBytes};
 ghost use Rattle.model.specs.Planes.{view};
 ghost use Rattle.model.specs.Refusals.{tableOk};
-ghost use Rattle.pixel.specs.Pairs.{nextPlace};
-ghost use Rattle.row.specs.Drawing.{spanTop, Ready};
+ghost use Rattle.row.specs.Drawing.{spanTop, Edged, Ready};
 ghost use Rattle.commit.specs.Commit.{RowIn, Rewritten, Relimited, Limited, Changed, Drawable, PartDrawn, Redrawn, RowRedrawn, RowCommitted};
 
-// An edit of a row: the column after its last, as the view reads the row, and the two ends of its span.
+// An edit of a row: the column after its last, as the view reads the row, the low end of its span, and the edge right of its columns, whose
+// limit is the high end.
 pub struct Edit {
     pub columns: usize,
     pub low: u32,
-    pub high: u32,
+    pub edge: Edge,
 }
 
 // The entries of a row from `from` up to `to`.
@@ -56,7 +57,8 @@ fn edit_row(
     let old = row::row_low(right, table, depths, first, n);
     let end = column + n;
     write(&mut depths[column..end], candidate);
-    row::least_place(right, table, depths, first, n, old)
+    let least = row::least_place(right, table, depths, first, n, old);
+    row::quarter_before(least)
 }
 
 // What is taken for the limit of column `columns`, as a trial takes it: the held one, or the column's own place where that is less, or the
@@ -100,7 +102,7 @@ fn write_limits(
     }
 }
 
-// Brings a row's limits up to date, and answers the high end of the span.
+// Brings a row's limits up to date, and answers the edge right of the columns below `columns`, with the high end of the span.
 fn update_limits(
     right: bool,
     table: &[u16; 256],
@@ -108,14 +110,15 @@ fn update_limits(
     first: usize,
     columns: usize,
     limits: &mut [i16],
-) -> u32
+) -> Edge
     requires { ⌜ (tableOk (now table) ≡ true) × (length (now depths) ≤ 4096) ⌝ }
     requires { ⌜ (length (now limits) ≡ length (now depths)) × ((0 < columns) × (columns ≤ length (now depths))) ⌝ }
     ensures { λ r. ⌜ Limited (now (table .entry)) (seen right (now (depths .entry))) first columns r (seen right (now (limits .entry))) (seen right (now (limits .exit))) ⌝ }
 {
     let high = high_of(right, table, depths, limits, columns);
+    let edge = row::edge_of(right, limits, columns, high);
     write_limits(right, table, depths, first, columns, high, limits);
-    high
+    edge
 }
 
 // Writes the candidate into row y of the depths from `column` on, and brings the row's limits up to date.
@@ -132,7 +135,7 @@ fn change_row(
     requires { ⌜ (tableOk (now table) ≡ true) × (w ≤ 4096) ⌝ }
     requires { ⌜ (0 < length (now candidate)) × (column + length (now candidate) ≤ w) ⌝ }
     requires { ⌜ (y * w + w ≤ length (now depths)) × (y * w + w ≤ length (now limits)) ⌝ }
-    ensures { λ r. ⌜ Changed right (now (table .entry)) w y column (now (candidate .entry)) (now (depths .entry)) (now (depths .exit)) (now (limits .entry)) (now (limits .exit)) (r .columns) (r .low) (r .high) ⌝ }
+    ensures { λ r. ⌜ Changed right (now (table .entry)) w y column (now (candidate .entry)) (now (depths .entry)) (now (depths .exit)) (now (limits .entry)) (now (limits .exit)) (r .columns) (r .low) (r .edge) ⌝ }
 {
     let base = y * w;
     let end = base + w;
@@ -148,7 +151,7 @@ fn change_row(
         candidate,
         &mut depths[base..end],
     );
-    let high = update_limits(
+    let edge = update_limits(
         right,
         table,
         &depths[base..end],
@@ -156,17 +159,18 @@ fn change_row(
         columns,
         &mut limits[base..end],
     );
-    Edit { columns, low, high }
+    Edit { columns, low, edge }
 }
 
-// Draws the positions from `start` on from the columns below `columns` into parts of just that stretch, and puts their marks into the row's
-// from entry `at` on; `flags` is room for them.
+// Draws the positions from `start` on from the columns below `columns` and the edge right of them into parts of just that stretch, and puts
+// their marks into the row's from entry `at` on; `flags` is room for them.
 fn draw_marked(
     right: bool,
     table: &[u16; 256],
     texture: &[u8],
     depths: &[u8],
     columns: usize,
+    edge: Edge,
     start: usize,
     at: usize,
     samples: &mut [u8],
@@ -174,9 +178,9 @@ fn draw_marked(
     marks: &mut [u8],
     flags: &mut [u8],
 )
-    requires { ⌜ Drawable right (now table) (now texture) (now depths) columns start at (now samples) (now fronts) (now marks) ⌝ }
+    requires { ⌜ Drawable right (now table) (now texture) (now depths) columns edge start at (now samples) (now fronts) (now marks) ⌝ }
     requires { ⌜ length (now flags) ≡ length (now samples) ⌝ }
-    ensures { λ _. ⌜ PartDrawn right (line (now (table .entry)) (seen right (now (texture .entry))) (seen right (now (depths .entry)))) columns start at (length (now (samples .entry)))
+    ensures { λ _. ⌜ PartDrawn right (line (now (table .entry)) (seen right (now (texture .entry))) (seen right (now (depths .entry)))) columns edge start at (length (now (samples .entry)))
         (now (marks .entry)) (now (samples .exit)) (now (fronts .exit)) (now (marks .exit)) ⌝ }
 {
     row::draw_part(
@@ -185,6 +189,7 @@ fn draw_marked(
         texture,
         depths,
         columns,
+        edge,
         start,
         samples,
         fronts,
@@ -207,14 +212,15 @@ fn draw_long(
     texture: &[u8],
     depths: &[u8],
     columns: usize,
+    edge: Edge,
     start: usize,
     at: usize,
     samples: &mut [u8],
     fronts: &mut [u8],
     marks: &mut [u8],
 )
-    requires { ⌜ Drawable right (now table) (now texture) (now depths) columns start at (now samples) (now fronts) (now marks) ⌝ }
-    ensures { λ _. ⌜ PartDrawn right (line (now (table .entry)) (seen right (now (texture .entry))) (seen right (now (depths .entry)))) columns start at (length (now (samples .entry)))
+    requires { ⌜ Drawable right (now table) (now texture) (now depths) columns edge start at (now samples) (now fronts) (now marks) ⌝ }
+    ensures { λ _. ⌜ PartDrawn right (line (now (table .entry)) (seen right (now (texture .entry))) (seen right (now (depths .entry)))) columns edge start at (length (now (samples .entry)))
         (now (marks .entry)) (now (samples .exit)) (now (fronts .exit)) (now (marks .exit)) ⌝ }
 {
     let mut flags = room();
@@ -225,6 +231,7 @@ fn draw_long(
         texture,
         depths,
         columns,
+        edge,
         start,
         at,
         samples,
@@ -241,14 +248,15 @@ fn draw_stretch(
     texture: &[u8],
     depths: &[u8],
     columns: usize,
+    edge: Edge,
     start: usize,
     at: usize,
     samples: &mut [u8],
     fronts: &mut [u8],
     marks: &mut [u8],
 )
-    requires { ⌜ Drawable right (now table) (now texture) (now depths) columns start at (now samples) (now fronts) (now marks) ⌝ }
-    ensures { λ _. ⌜ PartDrawn right (line (now (table .entry)) (seen right (now (texture .entry))) (seen right (now (depths .entry)))) columns start at (length (now (samples .entry)))
+    requires { ⌜ Drawable right (now table) (now texture) (now depths) columns edge start at (now samples) (now fronts) (now marks) ⌝ }
+    ensures { λ _. ⌜ PartDrawn right (line (now (table .entry)) (seen right (now (texture .entry))) (seen right (now (depths .entry)))) columns edge start at (length (now (samples .entry)))
         (now (marks .entry)) (now (samples .exit)) (now (fronts .exit)) (now (marks .exit)) ⌝ }
 {
     let n = samples.len();
@@ -259,6 +267,7 @@ fn draw_stretch(
             texture,
             depths,
             columns,
+            edge,
             start,
             at,
             samples,
@@ -274,6 +283,7 @@ fn draw_stretch(
         texture,
         depths,
         columns,
+        edge,
         start,
         at,
         samples,
@@ -283,7 +293,7 @@ fn draw_stretch(
     );
 }
 
-// Draws the span from `low` to `high` of row y from the columns below `columns`, and answers its entries. Of samples and fronts only the
+// Draws the span from `low` to the edge of row y from the columns below `columns`, and answers its entries. Of samples and fronts only the
 // span's own stretch is lent for writing.
 fn redraw(
     right: bool,
@@ -292,20 +302,20 @@ fn redraw(
     depths: &[u8],
     columns: usize,
     low: u32,
-    high: u32,
+    edge: Edge,
     y: usize,
     samples: &mut [u8],
     fronts: &mut [u8],
     marks: &mut [u8],
 ) -> Stretch
     requires { ⌜ Ready (line (now table) (seen right (now texture)) (seen right (now depths))) ⌝ }
-    requires { ⌜ (0 < columns) × ((columns ≤ length (seen right (now depths))) × (high ≤ nextPlace (now table) (seen right (now depths)) (columns - 1))) ⌝ }
+    requires { ⌜ (0 < columns) × ((columns ≤ length (seen right (now depths))) × (Edged (now table) (seen right (now depths)) columns edge)) ⌝ }
     requires { ⌜ (y * length (now depths) + length (now depths) ≤ length (now samples)) × ((y * length (now depths) + length (now depths) ≤ length (now fronts)) × (length (now marks) ≡ markBytes (length (now depths)))) ⌝ }
-    ensures { λ r. ⌜ Redrawn right (line (now (table .entry)) (seen right (now (texture .entry))) (seen right (now (depths .entry)))) (length (now (depths .entry))) y columns low high (r .from) (r .to)
+    ensures { λ r. ⌜ Redrawn right (line (now (table .entry)) (seen right (now (texture .entry))) (seen right (now (depths .entry)))) (length (now (depths .entry))) y columns low edge (r .from) (r .to)
         (now (samples .entry)) (now (fronts .entry)) (now (marks .entry)) (now (samples .exit)) (now (fronts .exit)) (now (marks .exit)) ⌝ }
 {
     let start = row::first_at(low);
-    let end = row::first_at(high);
+    let end = row::first_at(edge.limit);
     if end <= start {
         return Stretch { from: 0, to: 0 };
     }
@@ -320,6 +330,7 @@ fn redraw(
         texture,
         depths,
         columns,
+        edge,
         start,
         at,
         &mut samples[from..to],
@@ -342,16 +353,16 @@ fn redraw_row(
     y: usize,
     columns: usize,
     low: u32,
-    high: u32,
+    edge: Edge,
     samples: &mut [u8],
     fronts: &mut [u8],
     marks: &mut [u8],
 ) -> Stretch
     requires { ⌜ (tableOk (now table) ≡ true) × ((0 < w) × (w ≤ 4096)) ⌝ }
-    requires { ⌜ (0 < columns) × ((columns ≤ w) × (high ≤ nextPlace (now table) (seen right (rowOf (now depths) w y)) (columns - 1))) ⌝ }
+    requires { ⌜ (0 < columns) × ((columns ≤ w) × (Edged (now table) (seen right (rowOf (now depths) w y)) columns edge)) ⌝ }
     requires { ⌜ (y * w + w ≤ length (now texture)) × (y * w + w ≤ length (now depths)) ⌝ }
     requires { ⌜ (y * w + w ≤ length (now samples)) × ((y * w + w ≤ length (now fronts)) × (y * markBytes w + markBytes w ≤ length (now marks))) ⌝ }
-    ensures { λ r. ⌜ RowRedrawn right (line (now (table .entry)) (seen right (rowOf (now (texture .entry)) w y)) (seen right (rowOf (now (depths .entry)) w y))) w y columns low high (r .from) (r .to)
+    ensures { λ r. ⌜ RowRedrawn right (line (now (table .entry)) (seen right (rowOf (now (texture .entry)) w y)) (seen right (rowOf (now (depths .entry)) w y))) w y columns low edge (r .from) (r .to)
         (now (samples .entry)) (now (fronts .entry)) (now (marks .entry)) (now (samples .exit)) (now (fronts .exit)) (now (marks .exit)) ⌝ }
 {
     let base = y * w;
@@ -366,7 +377,7 @@ fn redraw_row(
         &depths[base..end],
         columns,
         low,
-        high,
+        edge,
         y,
         samples,
         fronts,
@@ -399,7 +410,7 @@ pub fn commit_row(
     let edit = change_row(right, table, w, y, column, candidate, depths, limits);
     let columns = edit.columns;
     let low = edit.low;
-    let high = edit.high;
+    let edge = edit.edge;
     redraw_row(
         right,
         table,
@@ -409,7 +420,7 @@ pub fn commit_row(
         y,
         columns,
         low,
-        high,
+        edge,
         samples,
         fronts,
         marks,

@@ -18,7 +18,7 @@ use Rattle.model.specs.declared.Kind.{Kind}
 use Rattle.model.specs.declared.Kind.the-variants.{Hidden, Smooth, Torn}
 use Rattle.model.specs.declared.Pixel.{Pixel}
 use Rattle.model.specs.Lists.{listOf, rowOf}
-use Rattle.model.specs.Row.{Line, width, placeIn, kindOf, owner, quarter, byKind, pixelAt, ownedPixel, pairPixel, smoothPixel, tornPixel, lastPixel}
+use Rattle.model.specs.Row.{Line, width, placeIn, kindOf, owner, quarter, byKind, pixelAt, shownPixel, nearEdge, ownedPixel, pairPixel, smoothPixel, tornPixel, lastPixel}
 use Rattle.model.specs.Views.{viewRow, entryOf}
 use Rattle.model.specs.Marks.{markBytes, packRow, markAt}
 use Rattle.model.specs.Planes.{Pictures, Depths, area, withTotal, depthsOf, viewOf}
@@ -63,8 +63,10 @@ flag-owned l c x =
     (λ e. rw e (flag-kind (kindOf (subℕ (placeIn l (c + 1)) (placeIn l c))) _ (smoothPixel l c t (placeIn l (c + 1) - placeIn l c)) (tornPixel l c t) (omega arith) (omega arith) (flag-torn l c t (leb t 1) refl)))
 
 pub flag-pixel : (l : Line) (p : ℕ) → pixelAt l p .mark < 2
-unfolding pixelAt
-flag-pixel l p = flag-owned l (owner (placeIn l) (quarter p) (width l)) (quarter p)
+unfolding pixelAt shownPixel
+flag-pixel l p =
+    let c : ℕ = owner (placeIn l) (quarter p) (width l) in
+    bool-cases (nearEdge (placeIn l) (width l) c (quarter p)) (λ e. rw e (omega arith)) (λ e. rw e (flag-owned l c (quarter p)))
 
 pub flags-view : (r : Bool) (l : Line) → Flags (viewRow r l .marks)
 flags-view r l i =

@@ -6,6 +6,7 @@ pub mod Owners
 pub mod Signs
 pub mod Views
 pub mod Packing
+pub mod Edges
 pub mod Spans
 pub mod Fresh
 pub mod Written

@@ -10,7 +10,9 @@ use lib.IntN.{ℤ, pos, negℤ, subℕ, _+ℤ_, _-ℤ_, +ℤ-assoc, +ℤ-comm, +
 use lib.Signed.{leZ}
 use borrow.Author.Tests.{le-leb, lt-leb, lt-ltb, le-ltb}
 use Rattle.model.specs.Row.{place, quarter, raised, signed}
+use Rattle.model.specs.Span.{leastEdited, spanLow}
 use Rattle.model.proofs.Choice.{lt-or-le}
+use Rattle.model.proofs.Owners.{above-least}
 
 -- equal differences
 pub subℕ-same : (a b e g : ℕ) → a + g ≡ e + b → subℕ a b ≡ subℕ e g
@@ -76,3 +78,24 @@ subℕ-swap a b =
 
 pub signed-gap : (a b : ℕ) → signed a -ℤ signed b ≡ subℕ a b
 signed-gap a b = ap (λ (x : ℤ). signed a +ℤ x) (subℕ-swap b raised) ∙ subℕ-chain a raised b
+
+-- ---- low
+
+-- a raised place is at least 1
+place-some : (t d : List ℕ) (c : ℕ) → ((i : ℕ) → getD t i 0 ≤ 1023) → 0 < place t d c
+unfolding place
+place-some t d c h = omega (arith, h (getD d c 0))
+
+least-some : (t d e : List ℕ) (a b : ℕ) → ((i : ℕ) → getD t i 0 ≤ 1023) → 0 < leastEdited (place t d) (place t e) a b
+unfolding leastEdited
+least-some t d e a b h =
+    above-least (place t d) _ a (b + 1 - a) 0
+    (above-least (place t e) (place t d (a - 1)) a (b + 1 - a) 0 (place-some t d (a - 1) h) (λ j u v. place-some t e j h))
+    (λ j u v. place-some t d j h)
+
+-- so low is one quarter below the least of the places
+pub signed-low : (t d e : List ℕ) (a b : ℕ) → ((i : ℕ) → getD t i 0 ≤ 1023) → signed (spanLow (place t d) (place t e) a b) ≡ signed (leastEdited (place t d) (place t e) a b) -ℤ pos 1
+unfolding spanLow
+signed-low t d e a b h =
+    subℕ-same (leastEdited (place t d) (place t e) a b - 1) raised (leastEdited (place t d) (place t e) a b) (raised + 1) (omega (arith, least-some t d e a b h))
+    ∙ sym (signed-gap (leastEdited (place t d) (place t e) a b) (raised + 1))

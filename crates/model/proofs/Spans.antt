@@ -1,10 +1,11 @@
 -- The span law: outside the span of an edit nothing that is shown changes, and limits change at columns up to b only.
--- Enough, because a position keeps its owner there, and neither the owner nor the column after it is one that the edit moved.
---     outside-owns     the owner of a position outside the span, after the edit
---     span-pixel       so the position shows the same
+-- Enough, because a position and the next quarter keep their owners there, and neither these nor the columns after them are ones that the edit
+-- moved. For the next quarter low is one quarter lower than the places that the edit moves.
+--     apart-owns       the owner of a quarter that the edit does not reach, after the edit
+--     span-pixel       so a position outside the span shows the same
 --     span-limit       and the limits beyond b stay
 use Prim.Native.Nat.{ℕ, _+_, _-_, _<_, _≤_}
-use mathlib.Core.Path.{_≡_, sym, ap, subst}
+use mathlib.Core.Path.{_≡_, sym, ap, subst, _∙_}
 use mathlib.Core.Bool.{false}
 use mathlib.Core.Logic.{⊎-elim, _⊎_, inl, inr}
 use mathlib.Core.List.{List}
@@ -13,9 +14,10 @@ use lib.Dec.{leb, ltb}
 use lib.ListN.{length, getD}
 use borrow.Author.Tests.{leb-false, ltb-false}
 use Rattle.model.specs.Row.{line, place, owner, limit, least, quarter, signed, limitAt, pixelAt, ownedPixel, lastPixel, pairPixel, smoothPixel, tornPixel}
-use Rattle.model.specs.Span.{spanLow, spanHigh, inSpan}
+use Rattle.model.specs.Span.{leastEdited, spanLow, spanHigh, inSpan}
 use Rattle.model.proofs.Choice.{lt-or-le, and-false}
 use Rattle.model.proofs.Owners.{Owns, owner-owns, owner-is, above-limit, least-above, least-same, place-zero}
+use Rattle.model.proofs.Edges.{byOwners, near-owners}
 
 -- f and g are places before and after an edit of columns a to b
 pub record Moved (f g : ℕ → ℕ) (w a b : ℕ) : Type 0 where
@@ -42,8 +44,8 @@ module _ {f g : ℕ → ℕ} {w a b x c : ℕ} (moved : Moved f g w a b) (o : Ow
   agree : (j : ℕ) → (j < a) ⊎ (b < j) → g j ≡ f j
   agree j h = ⊎-elim (λ k. moved .under j k) (λ k. moved .beyond j k) h
 
-  low-case : x < spanLow f g a b → Owns g w x c × Apart a b c
-  unfolding spanLow
+  low-case : x < leastEdited f g a b → Owns g w x c × Apart a b c
+  unfolding leastEdited
   low-case h =
       let n : ℕ = b + 1 - a in
       let r = least-above f (least g (f (a - 1)) a n) a n x h in
@@ -76,8 +78,8 @@ module _ {f g : ℕ → ℕ} {w a b x c : ℕ} (moved : Moved f g w a b) (o : Ow
         inr k,
       )
 
-  pub outside-owns : x < quarter w → Outside f g w a b x → Owns g w x c × Apart a b c
-  outside-owns e h = ⊎-elim low-case (high-case e) h
+  pub apart-owns : x < quarter w → (x < leastEdited f g a b) ⊎ (spanHigh f w b ≤ x) → Owns g w x c × Apart a b c
+  apart-owns e h = ⊎-elim low-case (high-case e) h
 
 pub moved-limit : {f g : ℕ → ℕ} {w a b : ℕ} → Moved f g w a b → (c : ℕ) → b < c → limit g w c ≡ limit f w c
 unfolding limit
@@ -115,16 +117,32 @@ apart-same t s d e a b c x h o =
     let q : place t e (c + 1) ≡ place t d (c + 1) = ⊎-elim (λ k. m .under (c + 1) k) (λ k. m .beyond (c + 1) (omega arith)) o in
     simp (p, q, here, next, h .same)
 
+-- so what follows from two such owners is the same
+owners-same : (t s d e : List ℕ) (a b c o x : ℕ) → EditedRow d e a b → Apart a b c → Apart a b o → byOwners (line t s e) c o x ≡ byOwners (line t s d) c o x
+unfolding byOwners
+owners-same t s d e a b c o x h apart far =
+    let m = edited-moved t d e a b h in
+    let next : place t e (c + 1) ≡ place t d (c + 1) = ⊎-elim (λ k. m .under (c + 1) k) (λ k. m .beyond (c + 1) (omega arith)) apart in
+    let front : getD e o 0 ≡ getD d o 0 = ⊎-elim (λ k. h .under o (omega arith)) (λ k. h .beyond o k) far in
+    rw (next, front, apart-same t s d e a b c x h apart)
+
 pub span-pixel : (t s d e : List ℕ) (a b p : ℕ) → EditedRow d e a b → p < length d → Outside (place t d) (place t e) (length d) a b (quarter p) → pixelAt (line t s e) p ≡ pixelAt (line t s d) p
-unfolding pixelAt
+unfolding pixelAt spanLow
 span-pixel t s d e a b p h k out =
     let f = place t d in
     let g = place t e in
+    let m = edited-moved t d e a b h in
     let c : ℕ = owner f (quarter p) (length d) in
-    let o : Owns f (length d) (quarter p) c = owner-owns f (quarter p) (length d) (omega arith) (place-zero t d p) in
-    let r = outside-owns (edited-moved t d e a b h) o (omega arith) out in
-    let i : owner g (quarter p) (length d) ≡ c = owner-is g (quarter p) (length d) c (place-zero t e p) (r .0) in
-    rw (h .same, i) (apart-same t s d e a b c (quarter p) h (r .1))
+    let o : ℕ = owner f (quarter p + 1) (length d) in
+    let oc : Owns f (length d) (quarter p) c = owner-owns f (quarter p) (length d) (omega arith) (place-zero t d p) in
+    let oo : Owns f (length d) (quarter p + 1) o = owner-owns f (quarter p + 1) (length d) (omega arith) (omega (arith, place-zero t d p)) in
+    let rc = apart-owns m oc (omega arith) (⊎-elim (λ u. inl (omega arith)) (λ u. inr u) out) in
+    let ro = apart-owns m oo (omega arith) (⊎-elim (λ u. inl (omega arith)) (λ u. inr (omega arith)) out) in
+    let same : owner g (quarter p) (length d) ≡ c = owner-is g (quarter p) (length d) c (place-zero t e p) (rc .0) in
+    rw (h .same, same)
+    (near-owners (line t s e) (quarter p) c o (rw (h .same) (omega arith)) (rw (h .same) (rc .0)) (rw (h .same) (ro .0))
+    ∙ owners-same t s d e a b c o (quarter p) h (rc .1) (ro .1)
+    ∙ sym (near-owners (line t s d) (quarter p) c o (omega arith) oc oo))
 
 pub span-limit : (t s d e : List ℕ) (a b c : ℕ) → EditedRow d e a b → b < c → limitAt (line t s e) c ≡ limitAt (line t s d) c
 unfolding limitAt

@@ -18,7 +18,7 @@ use Rattle.model.specs.declared.Kind.{Kind}
 use Rattle.model.specs.declared.Kind.the-variants.{Hidden, Smooth, Torn}
 use Rattle.model.specs.declared.Pixel.{Pixel}
 use Rattle.model.specs.Lists.{rowOf, sumTo}
-use Rattle.model.specs.Row.{Line, width, placeIn, owner, quarter, kindOf, greatest, taps1, taps2, taps3, weighted, clipped, filtered, mixed, byKind, pixelAt, ownedPixel, pairPixel, smoothPixel, tornPixel, lastPixel}
+use Rattle.model.specs.Row.{Line, width, placeIn, owner, quarter, kindOf, greatest, taps1, taps2, taps3, weighted, clipped, filtered, mixed, byKind, pixelAt, shownPixel, nearEdge, ownedPixel, pairPixel, smoothPixel, tornPixel, lastPixel}
 use Rattle.model.specs.Views.{seen, entryOf}
 use Rattle.model.specs.Combined.{worst, apart, shared, bothShown, bothHoles, combinedOf, squareError}
 use Rattle.model.specs.Planes.{Pictures, Depths, area, textureOf}
@@ -103,8 +103,10 @@ byte-owned l x c h =
     (bool-cases (leb (x - placeIn l c) 1) (λ q. rw q (h .at c)) (λ q. rw q (h .at (c + 1))))))
 
 pub byte-pixel : (l : Line) (p : ℕ) → Bytes (l .texture) → pixelAt l p .sample ≤ greatest
-unfolding pixelAt
-byte-pixel l p h = byte-owned l (quarter p) (owner (placeIn l) (quarter p) (width l)) h
+unfolding pixelAt shownPixel
+byte-pixel l p h =
+    let c : ℕ = owner (placeIn l) (quarter p) (width l) in
+    bool-cases (nearEdge (placeIn l) (width l) c (quarter p)) (λ e. rw e (h .at _)) (λ e. rw e (byte-owned l (quarter p) c h))
 
 pub byte-shared : (share a b : ℕ) → share ≤ 64 → a ≤ greatest → b ≤ greatest → shared share a b ≤ greatest
 unfolding shared

@@ -1,4 +1,4 @@
--- Document 01, "One row of the left view", with the filter of document 02, card 2.
+-- Document 01, "One row of the left view", with the filter of document 02, card 2, and the near edges of card 7.
 --
 -- A place, 4 × c − table[d] in quarters, may be as low as −1,023. Here every number of quarters is kept as a natural number,
 -- raised by 1,024, and `signed` takes that away again. The laws of proofs/Signs show that nothing is lost by it:
@@ -7,10 +7,10 @@
 --     signed-le        raised numbers are ordered as what they stand for
 --     signed-gap       and differ by as much
 use Prim.Native.Nat.{ℕ, zero, suc, _+_, _-_, _*_, _/_, min}
-use mathlib.Core.Bool.{cond}
+use mathlib.Core.Bool.{Bool, cond, _&&_}
 use mathlib.Core.List.{List, [], _∷_}
 use lib.ListN.{length, getD}
-use lib.Dec.{leb, eqb}
+use lib.Dec.{leb, ltb, eqb}
 use lib.IntN.{ℤ, pos, negsuc, negℤ, subℕ, _+ℤ_, _*ℤ_}
 use lib.Signed.{ltZ, shrZ}
 use Rattle.model.specs.declared.Kind.{Kind}
@@ -150,13 +150,31 @@ pairPixel l c t =
     (smoothPixel l c t (placeIn l (c + 1) - placeIn l c))
     (tornPixel l c t)
 
--- what x shows where column c owns it; t = 4 × p − place(c)
+-- what column c itself shows at x; t = 4 × p − place(c)
 unfoldable pub ownedPixel : Line → ℕ → ℕ → Pixel
 ownedPixel l c x = cond (leb (width l) (c + 1)) (lastPixel l c (x - placeIn l c)) (pairPixel l c (x - placeIn l c))
 
--- Position p shows what its owner shows there.
+-- ---- Card 7: near edges begin at the rounded place
+
+-- the greatest of the columns below n that is placed at m
+unfoldable pub placedAt : (ℕ → ℕ) → ℕ → ℕ → ℕ
+placedAt f m zero = 0
+placedAt f m (suc n) = cond (eqb (f n) m) n (placedAt f m n)
+
+-- The owner c of x isn't last, the place of c + 1 is above its limit m, and m − x is at most 1. What c owns lies below m.
+unfoldable pub nearEdge : (ℕ → ℕ) → ℕ → ℕ → ℕ → Bool
+nearEdge f w c x = ltb (c + 1) w && (ltb (limit f w (c + 1)) (f (c + 1)) && leb (limit f w (c + 1) - x) 1)
+
+-- What x shows where column c owns it: at a near edge sample and front depth of the greatest column placed at m, mark 0.
+unfoldable pub shownPixel : Line → ℕ → ℕ → Pixel
+shownPixel l c x =
+    cond (nearEdge (placeIn l) (width l) c x)
+    (plain l (placedAt (placeIn l) (limit (placeIn l) (width l) (c + 1)) (width l)) 0)
+    (ownedPixel l c x)
+
+-- what position p shows
 unfoldable pub pixelAt : Line → ℕ → Pixel
-pixelAt l p = ownedPixel l (owner (placeIn l) (quarter p) (width l)) (quarter p)
+pixelAt l p = shownPixel l (owner (placeIn l) (quarter p) (width l)) (quarter p)
 
 -- the limit of column c, as a signed number
 unfoldable pub limitAt : Line → ℕ → ℤ

@@ -1,4 +1,4 @@
--- Document 01, "The span of an edit".
+-- Document 01, "The span of an edit", with document 02, card 7: low falls by one quarter.
 use Prim.Native.Nat.{ℕ, _+_, _-_}
 use mathlib.Core.Bool.{Bool, true, false, _&&_}
 use lib.Dec.{leb, ltb}
@@ -9,10 +9,14 @@ use Rattle.model.specs.Row.{place, least, limit, quarter}
 use Rattle.model.specs.Views.{seen, entryOf}
 use Rattle.model.specs.Planes.{Depths, tableOf, depthsOf}
 
--- Low is the least of the old places f and the new places g of columns a to b and the place of a − 1.
+-- the least of the old places f and the new places g of columns a to b and the place of a − 1
 -- At a = 0 that last is column 0's own, which is counted already.
+unfoldable pub leastEdited : (ℕ → ℕ) → (ℕ → ℕ) → ℕ → ℕ → ℕ
+leastEdited f g a b = least f (least g (f (a - 1)) a (b + 1 - a)) a (b + 1 - a)
+
+-- Low is one quarter below that (card 7). Raised places are above 0, so that nothing is lost (proofs/Signs, signed-low).
 unfoldable pub spanLow : (ℕ → ℕ) → (ℕ → ℕ) → ℕ → ℕ → ℕ
-spanLow f g a b = least f (least g (f (a - 1)) a (b + 1 - a)) a (b + 1 - a)
+spanLow f g a b = leastEdited f g a b - 1
 
 -- High is the limit of b + 1; if b is the last column the span runs to the row's end.
 unfoldable pub spanHigh : (ℕ → ℕ) → ℕ → ℕ → ℕ

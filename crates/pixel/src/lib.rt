@@ -1,14 +1,21 @@
-// What one position shows, from its owner and the column after it.
+// What one position shows, from its owner, the column after it and the near edge beyond.
 use model::Pixel;
 ghost use mathlib.Core.Path.{_≡_};
 ghost use Prim.Native.Nat.{_+_, _-_, _≤_, _<_};
 ghost use lib.ListN.{length, getD};
-ghost use Rattle.model.specs.Row.{stepOf, mixed};
+ghost use Rattle.model.specs.Row.{stepOf, mixed, pixel};
 ghost use Rattle.model.specs.Views.{seen, entryOf};
-ghost use Rattle.pixel.specs.Pairs.{Among, reached, smoothOf, tornOf, lastOf, kindPixel, pixelOf};
+ghost use Rattle.pixel.specs.Pairs.{Among, reached, smoothOf, tornOf, lastOf, kindPixel, pixelOf, atEdge, frontPast};
 
-// A column and the one after it, as the view reads the row: the column and its entry, the two depths and the two places. Where the column
-// is the last of its row, `next` is the row's end.
+// The near edge right of some columns: the limit of the column after them, and the greatest column placed there. At the row's end none is, and
+// the column is the one past the last.
+pub struct Edge {
+    pub limit: u32,
+    pub column: usize,
+}
+
+// A column and the one after it, as the view reads the row: the column and its entry, the two depths and the two places; and the near edge
+// right of the column, its limit and the greatest column placed there. Where the column is the last of its row, `next` is the row's end.
 pub struct Pair {
     pub column: usize,
     pub entry: usize,
@@ -16,6 +23,8 @@ pub struct Pair {
     pub d1: u8,
     pub here: u32,
     pub next: u32,
+    pub limit: u32,
+    pub front: usize,
 }
 
 // 1 where x is at least m, else 0.
@@ -132,7 +141,7 @@ fn kind_pixel(right: bool, texture: &[u8], q: Pair, t: u32) -> Pixel
     }
 }
 
-// What x shows, where the pair's column owns it.
+// What x shows by the pair's column itself, where that owns it.
 pub fn pixel_of(right: bool, texture: &[u8], q: Pair, x: u32) -> Pixel
     requires { ⌜ Among right (length (now texture)) q ⌝ }
     requires { ⌜ (q .here ≤ x) × ((x < q .next) × (q .next < 65536)) ⌝ }
@@ -144,4 +153,33 @@ pub fn pixel_of(right: bool, texture: &[u8], q: Pair, x: u32) -> Pixel
     } else {
         kind_pixel(right, texture, q, t)
     }
+}
+
+// Whether x shows the near edge at `limit`: it is at most a quarter away, and the column after the owner, placed at `next`, lies beyond it.
+pub fn at_edge(limit: u32, next: u32, x: u32) -> bool
+    requires { ⌜ x < limit ⌝ }
+    ensures { λ r. ⌜ r ≡ atEdge limit next x ⌝ }
+{
+    if limit < next { limit - x <= 1 } else { false }
+}
+
+// What a near edge shows: sample and depth of its column, whose entry is e.
+pub fn edge_pixel(right: bool, texture: &[u8], c: usize, e: usize, depth: u8) -> Pixel
+    requires { ⌜ (c < length (now texture)) × (e ≡ entryOf right (length (now texture)) c) ⌝ }
+    ensures { λ r. ⌜ r ≡ pixel (getD (seen right (now (texture .entry))) c 0) 0 depth ⌝ }
+{
+    let mark = 0;
+    Pixel {
+        sample: sample_at(right, texture, c, e),
+        mark,
+        front: depth,
+    }
+}
+
+// The greatest column placed at the limit of the pair's column: the pair's own where it is placed before the limit of the next, so that of
+// columns placed there the greatest stays.
+pub fn front_past(q: Pair) -> usize
+    ensures { λ r. ⌜ r ≡ frontPast q ⌝ }
+{
+    if q.here < q.limit { q.column } else { q.front }
 }

@@ -2,15 +2,22 @@
 --     place-is        the place of a column
 --     stands-of       a pair made from depths and the next place
 --     stands-left     the pair one column to the left
-use Prim.Native.Nat.{ℕ, _+_, _-_, _<_}
+--     past-within     and its edge
+--     edge-within     an edge that shows lies in the row
+use Prim.Native.Nat.{ℕ, _+_, _-_, _<_, _≤_}
 use mathlib.Core.Path.{_≡_, sym, ap, _∙_}
+use mathlib.Core.Bool.{Bool, true}
 use mathlib.Core.List.{List}
 use native.Mathlib.Omega.{arith}
+use lib.Dec.{leb, ltb}
 use lib.ListN.{length, getD}
+use borrow.Author.Tests.{ltb-true}
 use Rattle.model.specs.Row.{quarter, place}
+use Rattle.model.proofs.Choice.{and-left}
+use Rattle.pixel.specs.declared.Edge.{Edge}
 use Rattle.pixel.specs.declared.Pair.{Pair}
-use Rattle.pixel.specs.Pairs.{nextPlace, Stands}
-use Rattle.pixel.proofs.Pairs.{next-inner}
+use Rattle.pixel.specs.Pairs.{nextPlace, Stands, Among, edgePast, atEdge}
+use Rattle.pixel.proofs.Pairs.{next-inner, past-cases}
 
 -- the place of column c from its depth
 pub place-is : (t d : List ℕ) (c : ℕ) {d0 here : ℕ} → d0 ≡ getD d c 0 → here ≡ quarter c - getD t d0 0 → here ≡ place t d c
@@ -27,3 +34,14 @@ stands-left {t} {d} {q} r s some h ec e0 e1 eh en =
     (e1 ∙ s .d0 ∙ ap (λ (c : ℕ). getD d c 0) (sym z))
     eh
     (en ∙ s .here ∙ ap (place t d) (sym z) ∙ sym (next-inner t d (r .column) (omega arith)))
+
+-- the edge right of the column before a pair's lies in the row
+pub past-within : {right : Bool} {w : ℕ} (q : Pair) → Among right w q → edgePast q .limit < quarter w → edgePast q .column < w
+past-within {right} {w} q a = past-cases q (λ (e : Edge). e .limit < quarter w → e .column < w) (λ u v. a .column) (λ u v. a .front v)
+
+-- an edge that shows lies in the row
+pub edge-within : {right : Bool} {w : ℕ} (q : Pair) (x : ℕ) → Among right w q → q .next ≤ quarter w → atEdge (q .limit) (q .next) x ≡ true → q .front < w
+unfolding atEdge
+edge-within q x a h e =
+    let beyond : q .limit < q .next = ltb-true _ _ (and-left (ltb (q .limit) (q .next)) (leb (q .limit - x) 1) e) in
+    a .front (omega arith)

@@ -3,7 +3,7 @@ use Prim.Native.Nat.{ℕ, zero, suc, _+_, _-_, _<_, _≤_, min}
 use mathlib.Core.Path.{_≡_, refl, ap, _∙_}
 use native.Mathlib.Omega.{arith}
 use Rattle.model.specs.Row.{least}
-use Rattle.model.specs.Span.{spanLow}
+use Rattle.model.specs.Span.{leastEdited, spanLow}
 
 pub least-none : (f : ℕ → ℕ) (top from n : ℕ) → top ≡ least f top (from + n) (n - n)
 unfolding least
@@ -42,8 +42,8 @@ least-both f g top a zero = refl
 least-both f g top a (suc n) = omega (arith, least-both f g top (suc a) n, least-top f (g a) (least g top (suc a) n) (suc a) n)
 
 -- Low: the places f before an edit of the n columns from a on, with the place of a − 1, then the places g after it.
-pub low-is : (f g : ℕ → ℕ) (old low a n : ℕ) → 0 < n → old ≡ least f (f (a - 1)) a n → low ≡ least g old a n → low ≡ spanLow f g a (a + n - 1)
-unfolding spanLow
+pub low-is : (f g : ℕ → ℕ) (old low a n : ℕ) → 0 < n → old ≡ least f (f (a - 1)) a n → low ≡ least g old a n → low - 1 ≡ spanLow f g a (a + n - 1)
+unfolding spanLow leastEdited
 low-is f g old low a n some eo el =
     let k : a + n - 1 + 1 - a ≡ n = omega arith in
-    rw k (el ∙ ap (λ (m : ℕ). least g m a n) eo ∙ least-swap g f (f (a - 1)) a a n n)
+    ap (λ (m : ℕ). m - 1) (rw k (el ∙ ap (λ (m : ℕ). least g m a n) eo ∙ least-swap g f (f (a - 1)) a a n n))

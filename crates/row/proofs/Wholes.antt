@@ -15,9 +15,8 @@ use Rattle.model.proofs.Views.{length-seen}
 use Rattle.planes.specs.Parts.{Filled, Painted}
 use Rattle.planes.proofs.Fills.{filled-change}
 use Rattle.planes.proofs.SeenParts.{seen-all}
-use Rattle.pixel.specs.Pairs.{nextPlace}
 use Rattle.pixel.proofs.Pairs.{next-last}
-use Rattle.row.specs.Drawing.{firstAt, pixelBelow, limitBelow, Ready, Shows}
+use Rattle.row.specs.Drawing.{firstAt, pixelBelow, limitBelow, endEdge, Edged, Ready, Shows}
 use Rattle.row.proofs.Below.{below-limit, below-pixel}
 
 -- the row as the view reads it can be drawn where the row can
@@ -30,27 +29,34 @@ ready-seen r t s d h =
       most = rw (length-seen r d) (h .most);
     }
 
--- all its positions lie before the row's end
-pub end-before : (t d : List ℕ) (n : ℕ) → 0 < n → length d ≡ n → 0 + n ≤ firstAt (nextPlace t d (n - 1))
-end-before t d n h e = rw (next-last t d (n - 1) (omega arith), e) (omega arith)
+-- the row's end is an edge right of all its columns, and all its positions lie before it
+pub end-edged : (t d : List ℕ) (n : ℕ) → 0 < n → length d ≡ n → Edged t d n (endEdge n)
+end-edged t d n h e =
+    record {
+      under = rw (next-last t d (n - 1) (omega arith), e) (omega arith);
+      within = λ u. absurd (omega arith);
+    }
+
+pub end-before : (n : ℕ) → 0 + n ≤ firstAt (quarter n)
+end-before n = omega arith
 
 module _ (r : Bool) (t s d : List ℕ) (w : ℕ) (some : 0 < w) (wide : length d ≡ w) where
   seen-wide : length (seen r d) ≡ w
   seen-wide = length-seen r d ∙ wide
 
-  pixel-whole : (p : ℕ) → p < w → pixelBelow (line t (seen r s) (seen r d)) w (0 + p) ≡ pixelAt (line t (seen r s) (seen r d)) p
+  pixel-whole : (p : ℕ) → p < w → pixelBelow (line t (seen r s) (seen r d)) w (endEdge w) (0 + p) ≡ pixelAt (line t (seen r s) (seen r d)) p
   pixel-whole p h =
       let l : Line = line t (seen r s) (seen r d) in
       let z : 0 + p ≡ p = omega arith in
       let e : limit (placeIn l) (width l) w ≡ quarter w = rw seen-wide (limit-end (placeIn l) w) in
-      rw z (below-pixel l w p some (omega (arith, seen-wide)) (rw e (omega arith)))
+      rw z (below-pixel l w p (endEdge w) some (omega (arith, seen-wide)) (sym e) (λ u. absurd (omega arith)) (omega arith))
 
-  plane-whole : (g : Pixel → ℕ) {x : List ℕ} (ys : List ℕ) → length ys ≡ w → Filled 0 (λ p. g (pixelBelow (line t (seen r s) (seen r d)) w (0 + p))) 0 w x (seen r ys) → ys ≡ seen r (listOf (λ p. g (pixelAt (line t (seen r s) (seen r d)) p)) (length (seen r d)))
+  plane-whole : (g : Pixel → ℕ) {x : List ℕ} (ys : List ℕ) → length ys ≡ w → Filled 0 (λ p. g (pixelBelow (line t (seen r s) (seen r d)) w (endEdge w) (0 + p))) 0 w x (seen r ys) → ys ≡ seen r (listOf (λ p. g (pixelAt (line t (seen r s) (seen r d)) p)) (length (seen r d)))
   plane-whole g ys e h =
       rw seen-wide (seen-all 0 r (λ p. g (pixelAt (line t (seen r s) (seen r d)) p)) w ys e (filled-change h (λ p a b. ap g (pixel-whole p b))))
 
   -- a row painted from its end on shows the view's row
-  pub row-whole : {x y z : List ℕ} (xs ys zs : List ℕ) → length xs ≡ w → length ys ≡ w → length zs ≡ w → Painted (λ i. pixelBelow (line t (seen r s) (seen r d)) w (0 + i)) 0 w x y z (seen r xs) (seen r ys) (seen r zs) → Shows (viewRow r (line t s d)) xs ys zs
+  pub row-whole : {x y z : List ℕ} (xs ys zs : List ℕ) → length xs ≡ w → length ys ≡ w → length zs ≡ w → Painted (λ i. pixelBelow (line t (seen r s) (seen r d)) w (endEdge w) (0 + i)) 0 w x y z (seen r xs) (seen r ys) (seen r zs) → Shows (viewRow r (line t s d)) xs ys zs
   unfolding viewRow leftRow
   row-whole xs ys zs lx ly lz p =
       record {

@@ -1,6 +1,6 @@
--- A row drawn from the right, position by position, from the columns below one of them; `high` is taken for the limit of that column.
--- Where it is that limit, what is drawn is the row of document 01 (proofs/Below: below-limit, below-pixel).
-use Prim.Native.Nat.{ℕ, _+_, _-_, _/_, _<_, _≤_, min}
+-- A row drawn from the right, position by position, from the columns below one of them; an edge is taken for the near edge right of them, its
+-- limit for the limit of that column. Where they are that, what is drawn is the row of document 01 (proofs/Below: below-limit, below-pixel).
+use Prim.Native.Nat.{ℕ, zero, suc, _+_, _-_, _/_, _%_, _<_, _≤_, min}
 use mathlib.Core.Path.{_≡_}
 use mathlib.Core.Bool.{Bool, true, cond}
 use mathlib.Core.List.{List}
@@ -8,25 +8,41 @@ use lib.Dec.{ltb}
 use lib.ListN.{length, getD}
 use lib.IntN.{ℤ, pos}
 use Rattle.model.specs.declared.Pixel.{Pixel}
-use Rattle.model.specs.Row.{Line, line, width, place, placeIn, quarter, least, owner, ownedPixel, Row}
+use Rattle.model.specs.Row.{Line, line, width, place, placeIn, quarter, least, owner, pixel, Row}
 use Rattle.model.specs.Views.{seen}
 use Rattle.model.specs.Refusals.{tableOk}
 use Rattle.planes.specs.Parts.{splice, Painted}
 use Rattle.signed.specs.Limits.{raisedOf}
+use Rattle.pixel.specs.declared.Edge.{Edge}
 use Rattle.pixel.specs.declared.Pair.{Pair}
-use Rattle.pixel.specs.Pairs.{nextPlace, Stands, Among}
+use Rattle.pixel.specs.Pairs.{nextPlace, Stands, Among, pixelOf, edgeRight, atEdge, edgedPixel}
 
 -- the first position at or past x
 abbrev pub firstAt : ℕ → ℕ
 firstAt x = (x - 1021) / 4
 
--- position p drawn from the columns below n alone
-unfoldable pub pixelBelow : Line → ℕ → ℕ → Pixel
-pixelBelow l n p = ownedPixel l (owner (placeIn l) (quarter p) n) (quarter p)
-
 -- the limit of column c, where `high` is taken for the limit of column n
 unfoldable pub limitBelow : (ℕ → ℕ) → ℕ → ℕ → ℕ → ℕ
 limitBelow f high n c = least f high c (n - c)
+
+-- the greatest column placed at the least place of the n columns from c on, and `e` where none is placed before `top`
+unfoldable pub front : (ℕ → ℕ) → ℕ → ℕ → ℕ → ℕ → ℕ
+front f top e c zero = e
+front f top e c (suc n) = cond (ltb (f c) (least f top (suc c) n)) c (front f top e (suc c) n)
+
+-- the greatest column placed at the limit of column c, where g is taken for the edge right of the columns below n
+unfoldable pub frontBelow : (ℕ → ℕ) → Edge → ℕ → ℕ → ℕ
+frontBelow f g n c = front f (g .limit) (g .column) c (n - c)
+
+-- what x shows where the pair's column owns it: s is the texture and d the depths, as the view reads them
+unfoldable pub shownOf : List ℕ → List ℕ → Pair → ℕ → Pixel
+shownOf s d q x = cond (atEdge (q .limit) (q .next) x) (pixel (getD s (q .front) 0) 0 (getD d (q .front) 0)) (pixelOf s q x)
+
+-- position p drawn from the columns below n alone, where g is taken for the edge right of them
+unfoldable pub pixelBelow : Line → ℕ → Edge → ℕ → Pixel
+pixelBelow l n g p =
+    let c = owner (placeIn l) (quarter p) n in
+    edgedPixel l c (limitBelow (placeIn l) (g .limit) n (c + 1)) (frontBelow (placeIn l) g n (c + 1)) (quarter p)
 
 -- What is taken for the limit of column n, whose place, or the row's end, is `next`: the held limits e may say anything, and a limit past
 -- `next` is not believed.
@@ -36,6 +52,28 @@ limitUnder e n next = cond (ltb n (length e)) (min next (raisedOf (getD e n (pos
 -- The high end of the span of an edit of columns below n: the rows of depths d and limits e are as the view reads them.
 abbrev pub spanTop : List ℕ → List ℕ → List ℤ → ℕ → ℕ
 spanTop t d e n = limitUnder e n (nextPlace t d (n - 1))
+
+-- Column c is the last, of 256 from n on, at which the held limits e still say `high`.
+pub record LastHeld (e : List ℤ) (n high c : ℕ) : Type 0 where
+  pub from : n ≤ c
+  pub here : n < c → raisedOf (getD e c (pos 0)) ≡ high
+  pub after : c + 1 < length e → c + 1 < n + 256 → raisedOf (getD e (c + 1) (pos 0)) ≡ high → ⊥
+
+-- The edge that is taken right of the columns below n of a row, by the held limits e, where `high` is taken for the limit of column n.
+-- Only a position one quarter before it shows it, so that its column is asked for only where `high` is one above a multiple of 4.
+pub record EdgeHeld (e : List ℤ) (n high : ℕ) (g : Edge) : Type 0 where
+  pub limit : g .limit ≡ high
+  pub within : n < length e → g .column < length e
+  pub last : n < length e → high % 4 ≡ 1 → LastHeld e n high (g .column)
+
+-- an edge right of the columns below n, with which these can be drawn
+pub record Edged (t d : List ℕ) (n : ℕ) (g : Edge) : Type 0 where
+  pub under : g .limit ≤ nextPlace t d (n - 1)
+  pub within : g .limit < quarter (length d) → g .column < length d
+
+-- that right of all n columns of a row: its end
+abbrev pub endEdge : ℕ → Edge
+endEdge n = record { limit = quarter n; column = n }
 
 -- a row that can be drawn
 pub record Ready (l : Line) : Type 0 where
@@ -50,21 +88,25 @@ pub record Ready (l : Line) : Type 0 where
 abbrev pub lineWith : Bool → List ℕ → List ℕ → List ℕ → ℕ → List ℕ → Line
 lineWith right t s d column x = line t (seen right s) (seen right (splice d column x))
 
--- A pair of the row l from which the positions below `stop` can be drawn: they lie before its second column.
+-- A pair of the row l from which the positions below `stop` can be drawn: they lie before its edge, and that is not past its second column.
 pub record Ahead (right : Bool) (l : Line) (stop : ℕ) (q : Pair) : Type 0 where
   pub among : Among right (width l) q
   pub stands : Stands (l .table) (l .depths) q
-  pub before : stop ≤ firstAt (q .next)
+  pub under : edgeRight q .limit ≤ q .next
+  pub before : stop ≤ firstAt (edgeRight q .limit)
 
--- The drawing has come from the pair q to the pair r: the columns it passed lie past the positions below `stop`.
+-- The drawing has come from the pair q to the pair r: the columns it passed lie past the positions below `stop`, and r has the edge that follows
+-- from them and from q's.
 pub record Passed (l : Line) (q r : Pair) (stop : ℕ) : Type 0 where
   pub column : r .column ≤ q .column
   pub past : (j p : ℕ) → r .column < j → j ≤ q .column → p < stop → quarter p < placeIn l j
+  pub limit : edgeRight r .limit ≡ limitBelow (placeIn l) (edgeRight q .limit) (q .column + 1) (r .column + 1)
+  pub front : edgeRight r .column ≡ frontBelow (placeIn l) (edgeRight q) (q .column + 1) (r .column + 1)
 
 -- What is drawn from the pair q: the positions from `start` on, in parts of just that stretch; and the pair r from which the positions
 -- before them can be drawn.
 pub record SpanDrawn (right : Bool) (l : Line) (start : ℕ) (q r : Pair) (s f m s′ f′ m′ : List ℕ) : Type 0 where
-  pub painted : Painted (λ i. pixelBelow l (q .column + 1) (start + i)) 0 (length s) (seen right s) (seen right f) (seen right m) (seen right s′) (seen right f′) (seen right m′)
+  pub painted : Painted (λ i. pixelBelow l (q .column + 1) (edgeRight q) (start + i)) 0 (length s) (seen right s) (seen right f) (seen right m) (seen right s′) (seen right f′) (seen right m′)
   pub ahead : Ahead right l start r
   pub passed : Passed l q r start
 

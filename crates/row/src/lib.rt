@@ -1,9 +1,10 @@
 // One row of one view: places, pixels, the drawing from the right, and limits.
 use model::Pixel;
+use pixel::Edge;
 use pixel::Pair;
 ghost use mathlib.Core.Path.{_≡_};
 ghost use mathlib.Core.Bool.{true, false};
-ghost use Prim.Native.Nat.{_+_, _-_, _≤_, _<_, min};
+ghost use Prim.Native.Nat.{_+_, _-_, _%_, _≤_, _<_, min};
 ghost use lib.ListN.{length, getD, set};
 ghost use lib.IntN.{pos};
 ghost use Rattle.model.specs.Row.{line, quarter, place, signed, least as leastOf};
@@ -12,8 +13,8 @@ ghost use Rattle.model.specs.Span.{firstColumn};
 ghost use Rattle.model.specs.Refusals.{tableOk};
 ghost use Rattle.planes.specs.Parts.{splice, Filled, Painted};
 ghost use Rattle.signed.specs.Limits.{raisedOf};
-ghost use Rattle.pixel.specs.Pairs.{nextPlace, Among, Stands};
-ghost use Rattle.row.specs.Drawing.{firstAt, pixelBelow, limitBelow, limitUnder, Ready, lineWith, Ahead, SpanDrawn, Shows, Drawn};
+ghost use Rattle.pixel.specs.Pairs.{nextPlace, Among, Stands, edgeRight, edgePast};
+ghost use Rattle.row.specs.Drawing.{firstAt, pixelBelow, limitBelow, limitUnder, LastHeld, EdgeHeld, Edged, shownOf, Ready, lineWith, Ahead, SpanDrawn, Shows, Drawn};
 
 // What stands at column c, as the view reads the row; 0 past its end.
 pub fn at(right: bool, row: &[u8], c: usize) -> u8
@@ -91,7 +92,7 @@ pub fn next_place(right: bool, table: &[u16; 256], depths: &[u8], c: usize) -> u
     }
 }
 
-// Column c of a row of w at depth d0, and the column after it.
+// Column c of a row of w at depth d0, the column after it, and the edge right of it.
 pub fn pair_of(
     right: bool,
     table: &[u16; 256],
@@ -100,9 +101,11 @@ pub fn pair_of(
     d0: u8,
     d1: u8,
     next: u32,
+    edge: Edge,
 ) -> Pair
     requires { ⌜ (tableOk (now table) ≡ true) × ((c < w) × (w ≤ 4096)) ⌝ }
-    ensures { λ r. ⌜ (Among right w r) × ((r .column ≡ c) × ((r .d0 ≡ d0) × ((r .d1 ≡ d1) × ((r .here ≡ quarter c - getD (now (table .entry)) d0 0) × (r .next ≡ next))))) ⌝ }
+    requires { ⌜ (edge .limit < quarter w → edge .column < w) ⌝ }
+    ensures { λ r. ⌜ (Among right w r) × ((r .column ≡ c) × ((r .d0 ≡ d0) × ((r .d1 ≡ d1) × ((r .here ≡ quarter c - getD (now (table .entry)) d0 0) × ((r .next ≡ next) × (edgeRight r ≡ edge)))))) ⌝ }
 {
     Pair {
         column: c,
@@ -111,18 +114,21 @@ pub fn pair_of(
         d1,
         here: place_at(table, c, d0),
         next,
+        limit: edge.limit,
+        front: edge.column,
     }
 }
 
-// Columns c and c + 1 of a row.
-pub fn pair_at(right: bool, table: &[u16; 256], depths: &[u8], c: usize) -> Pair
+// Columns c and c + 1 of a row, and the edge right of column c.
+pub fn pair_at(right: bool, table: &[u16; 256], depths: &[u8], c: usize, edge: Edge) -> Pair
     requires { ⌜ (tableOk (now table) ≡ true) × ((c < length (now depths)) × (length (now depths) ≤ 4096)) ⌝ }
-    ensures { λ r. ⌜ (r .column ≡ c) × ((Among right (length (now (depths .entry))) r) × (Stands (now (table .entry)) (seen right (now (depths .entry))) r)) ⌝ }
+    requires { ⌜ Edged (now table) (seen right (now depths)) (c + 1) edge ⌝ }
+    ensures { λ r. ⌜ (r .column ≡ c) × ((edgeRight r ≡ edge) × ((Among right (length (now (depths .entry))) r) × (Stands (now (table .entry)) (seen right (now (depths .entry))) r))) ⌝ }
 {
     let d0 = at(right, depths, c);
     let d1 = at(right, depths, c + 1);
     let next = next_place(right, table, depths, c);
-    pair_of(right, table, depths.len(), c, d0, d1, next)
+    pair_of(right, table, depths.len(), c, d0, d1, next, edge)
 }
 
 // The first position at or past x.
@@ -170,8 +176,8 @@ fn step(
     requires { ⌜ (tableOk (now table) ≡ true) × (column + length (now candidate) ≤ length (now depths)) ⌝ }
     requires { ⌜ (Among right (length (now depths)) q) × (0 < q .column) ⌝ }
     requires { ⌜ Stands (now table) (seen right (splice (now depths) column (now candidate))) q ⌝ }
-    ensures { λ r. ⌜ (r .column ≡ q .column - 1) × ((r .next ≡ q .here)
-        × ((Among right (length (now (depths .entry))) r) × (Stands (now (table .entry)) (seen right (splice (now (depths .entry)) column (now (candidate .entry)))) r))) ⌝ }
+    ensures { λ r. ⌜ (r .column ≡ q .column - 1) × ((r .next ≡ q .here) × ((edgeRight r ≡ edgePast q)
+        × ((Among right (length (now (depths .entry))) r) × (Stands (now (table .entry)) (seen right (splice (now (depths .entry)) column (now (candidate .entry)))) r)))) ⌝ }
 {
     let c = q.column - 1;
     let e = planes::left_of(right, depths.len(), q.column, q.entry);
@@ -183,11 +189,39 @@ fn step(
         d1: q.d0,
         here: place_at(table, c, d0),
         next: q.here,
+        limit: least(q.here, q.limit),
+        front: pixel::front_past(q),
+    }
+}
+
+// What x shows, where the pair's column owns it: the near edge, or what the column itself shows. That is made first, though an edge does not
+// need it: with the filter behind the test, the compiler takes it for half as likely and leaves it out of the trial's loop.
+fn shown_at(
+    right: bool,
+    texture: &[u8],
+    depths: &[u8],
+    candidate: &[u8],
+    column: usize,
+    q: Pair,
+    x: u32,
+) -> Pixel
+    requires { ⌜ (length (now texture) ≡ length (now depths)) × (column + length (now candidate) ≤ length (now depths)) ⌝ }
+    requires { ⌜ Among right (length (now depths)) q ⌝ }
+    requires { ⌜ (q .here ≤ x) × ((x < q .limit) × ((q .limit ≤ q .next) × (q .next ≤ quarter (length (now depths))))) ⌝ }
+    ensures { λ r. ⌜ r ≡ shownOf (seen right (now (texture .entry))) (seen right (splice (now (depths .entry)) column (now (candidate .entry)))) q x ⌝ }
+{
+    let own = pixel::pixel_of(right, texture, q, x);
+    if pixel::at_edge(q.limit, q.next, x) {
+        let e = planes::entry(right, depths.len(), q.front);
+        let depth = tried_at(depths, candidate, column, e);
+        pixel::edge_pixel(right, texture, q.front, e, depth)
+    } else {
+        own
     }
 }
 
 // Draws the positions from `start` on, from the right, into parts of just that stretch: columns are stepped to the left until one is placed at
-// most at the position, which is then its owner. Answers the pair that it has come to.
+// most at the position, which is then its owner; the nearest that was passed is the edge right of it. Answers the pair that it has come to.
 fn draw_positions(
     right: bool,
     table: &[u16; 256],
@@ -215,7 +249,7 @@ fn draw_positions(
             q = step(right, table, depths, candidate, column, q);
         } else {
             i -= 1;
-            let shown = pixel::pixel_of(right, texture, q, x);
+            let shown = shown_at(right, texture, depths, candidate, column, q, x);
             put_pixel(right, samples, fronts, flags, i, shown);
         }
     }
@@ -290,7 +324,7 @@ fn draw_right(
 }
 
 // Draws the positions from `start` on of a row with the candidate in the entries from `column` on, into parts of just that stretch. The pair
-// `from` may be any whose second column lies past them; drawn is what the columns up to its first show.
+// `from` may be any whose edge lies past them; drawn is what the columns up to its first show, and the edge.
 pub fn draw_span(
     right: bool,
     table: &[u16; 256],
@@ -360,6 +394,61 @@ pub fn limit_under(right: bool, limits: &[i16], n: usize, next: u32) -> u32
     }
 }
 
+// The column after the last one that may be placed at the limit of column n: a disparity is less than 256 columns.
+fn edge_end(w: usize, n: usize) -> usize
+    requires { ⌜ (n < w) × (w ≤ 4096) ⌝ }
+    ensures { λ r. ⌜ r ≡ min w (n + 256) ⌝ }
+{
+    if w - n <= 256 { w } else { n + 256 }
+}
+
+// The last column, of 256 from n on, whose held limit is still `high`, by halving: limits never fall to the right.
+fn last_held(right: bool, limits: &[i16], n: usize, high: u32) -> usize
+    requires { ⌜ (n < length (now limits)) × (length (now limits) ≤ 4096) ⌝ }
+    ensures { λ r. ⌜ (LastHeld (seen right (now (limits .entry))) n high r) × (r < length (now (limits .entry))) ⌝ }
+{
+    let mut low = n;
+    let mut top = edge_end(limits.len(), n);
+    while low + 1 < top {
+        let mid = low + (top - low) / 2;
+        if held_limit(right, limits, mid) == high {
+            low = mid;
+        } else {
+            top = mid;
+        }
+    }
+    low
+}
+
+// The column of the edge at `high`, which is taken for the limit of column n: the greatest that is placed there, by the held limits. It is
+// looked for only where a position may show it.
+fn edge_column(right: bool, limits: &[i16], n: usize, high: u32) -> usize
+    requires { ⌜ (n ≤ length (now limits)) × (length (now limits) ≤ 4096) ⌝ }
+    ensures { λ r. ⌜ (n < length (now (limits .entry)) → r < length (now (limits .entry))) × (n < length (now (limits .entry)) → (high % 4 ≡ 1) → LastHeld (seen right (now (limits .entry))) n high r) ⌝ }
+{
+    if high % 4 != 1 {
+        return n;
+    }
+    if limits.len() <= n + 1 {
+        return n;
+    }
+    if held_limit(right, limits, n + 1) != high {
+        return n;
+    }
+    last_held(right, limits, n, high)
+}
+
+// What is taken for the near edge right of the columns below n, where `high` is taken for the limit of column n.
+pub fn edge_of(right: bool, limits: &[i16], n: usize, high: u32) -> Edge
+    requires { ⌜ (n ≤ length (now limits)) × (length (now limits) ≤ 4096) ⌝ }
+    ensures { λ r. ⌜ EdgeHeld (seen right (now (limits .entry))) n high r ⌝ }
+{
+    Edge {
+        limit: high,
+        column: edge_column(right, limits, n, high),
+    }
+}
+
 // Writes the limits of the columns below `columns`, where `high` is taken for the limit of that column.
 pub fn draw_limits(
     right: bool,
@@ -405,6 +494,13 @@ pub fn least_place(
     low
 }
 
+// One quarter before x.
+pub fn quarter_before(x: u32) -> u32
+    ensures { λ r. ⌜ r ≡ x - 1 ⌝ }
+{
+    if x == 0 { 0 } else { x - 1 }
+}
+
 // The column before a, or column 0.
 pub fn column_before(a: usize) -> usize
     ensures { λ r. ⌜ r ≡ a - 1 ⌝ }
@@ -422,26 +518,27 @@ pub fn row_low(right: bool, table: &[u16; 256], depths: &[u8], a: usize, n: usiz
     least_place(right, table, depths, a, n, top)
 }
 
-// Draws the positions from `start` on of a row as it stands, from the columns below `columns`.
+// Draws the positions from `start` on of a row as it stands, from the columns below `columns` and the edge right of them.
 pub fn draw_part(
     right: bool,
     table: &[u16; 256],
     texture: &[u8],
     depths: &[u8],
     columns: usize,
+    edge: Edge,
     start: usize,
     samples: &mut [u8],
     fronts: &mut [u8],
     flags: &mut [u8],
 )
     requires { ⌜ Ready (line (now table) (now texture) (now depths)) ⌝ }
-    requires { ⌜ (0 < columns) × ((columns ≤ length (now depths)) × (start + length (now samples) ≤ firstAt (nextPlace (now table) (seen right (now depths)) (columns - 1)))) ⌝ }
+    requires { ⌜ (0 < columns) × ((columns ≤ length (now depths)) × ((Edged (now table) (seen right (now depths)) columns edge) × (start + length (now samples) ≤ firstAt (edge .limit)))) ⌝ }
     requires { ⌜ (length (now fronts) ≡ length (now samples)) × (length (now flags) ≡ length (now samples)) ⌝ }
-    ensures { λ _. ⌜ Painted (λ i. pixelBelow (line (now (table .entry)) (seen right (now (texture .entry))) (seen right (now (depths .entry)))) columns (start + i)) 0 (length (now (samples .entry)))
+    ensures { λ _. ⌜ Painted (λ i. pixelBelow (line (now (table .entry)) (seen right (now (texture .entry))) (seen right (now (depths .entry)))) columns edge (start + i)) 0 (length (now (samples .entry)))
         (seen right (now (samples .entry))) (seen right (now (fronts .entry))) (seen right (now (flags .entry)))
         (seen right (now (samples .exit))) (seen right (now (fronts .exit))) (seen right (now (flags .exit))) ⌝ }
 {
-    let from = pair_at(right, table, depths, columns - 1);
+    let from = pair_at(right, table, depths, columns - 1, edge);
     draw_span(
         right,
         table,
@@ -471,12 +568,18 @@ pub fn draw_view_row(
     requires { ⌜ (length (now samples) ≡ length (now depths)) × ((length (now fronts) ≡ length (now depths)) × (length (now flags) ≡ length (now depths))) ⌝ }
     ensures { λ _. ⌜ Shows (viewRow right (line (now (table .entry)) (now (texture .entry)) (now (depths .entry)))) (now (samples .exit)) (now (fronts .exit)) (now (flags .exit)) ⌝ }
 {
+    let w = depths.len();
+    let end = Edge {
+        limit: 4 * w as u32 + 1024,
+        column: w,
+    };
     draw_part(
         right,
         table,
         texture,
         depths,
-        depths.len(),
+        w,
+        end,
         0,
         samples,
         fronts,

@@ -10,7 +10,7 @@ use native.Mathlib.Omega.{arith}
 use lib.ListN.{length}
 use lib.IntN.{ℤ}
 use Rattle.model.specs.Row.{least, limit, quarter}
-use Rattle.model.specs.Span.{spanLow, spanHigh}
+use Rattle.model.specs.Span.{leastEdited, spanLow, spanHigh}
 use Rattle.model.proofs.Spans.{Outside}
 use Rattle.pixel.specs.Pairs.{nextPlace}
 use Rattle.row.specs.Drawing.{firstAt, limitUnder}
@@ -24,8 +24,8 @@ stop-within t d e n =
     first-within t d (n - 1) (limitUnder e n (nextPlace t d (n - 1))) (limit-least e n (nextPlace t d (n - 1)))
 
 -- the least of the old and the new places, as one
-pub start-is : (f g : ℕ → ℕ) (first n : ℕ) → 0 < n → firstAt (least (λ c. min (f c) (g c)) (f (first - 1)) first n) ≡ spanStart f g first n
-unfolding spanStart spanLow
+pub start-is : (f g : ℕ → ℕ) (first n : ℕ) → 0 < n → firstAt (least (λ c. min (f c) (g c)) (f (first - 1)) first n - 1) ≡ spanStart f g first n
+unfolding spanStart spanLow leastEdited
 start-is f g first n some =
     let e : first + n - 1 + 1 - first ≡ n = omega arith in
     rw (e, least-both f g (f (first - 1)) first n)

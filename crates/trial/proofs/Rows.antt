@@ -11,21 +11,24 @@ use mathlib.Core.Logic.{_⊎_, inl, inr}
 use mathlib.Core.List.{List}
 use native.Mathlib.Omega.{arith}
 use lib.ListN.{length, getD}
+use lib.IntN.{pos}
 use Rattle.model.specs.declared.Pixel.{Pixel}
 use Rattle.model.specs.Lists.{sumTo}
-use Rattle.model.specs.Row.{Line, width, place, placeIn, limit, pixel, pixelAt}
+use Rattle.model.specs.Refusals.{tableOk}
+use Rattle.model.specs.Row.{Line, line, width, place, placeIn, limit, pixel, pixelAt, limitAt}
 use Rattle.model.specs.Views.{seen, entryOf}
 use Rattle.model.specs.Combined.{worst, squareError}
-use Rattle.model.proofs.Spans.{edited-moved, moved-limit, span-pixel}
+use Rattle.model.proofs.Spans.{edited-moved, moved-limit, span-pixel, span-limit}
 use Rattle.model.proofs.Sums.{sum-next, sum-same, sum-join, sum-part, sum-turn, sum-change}
 use Rattle.model.proofs.Views.{length-seen, entry-within, entry-entry}
 use Rattle.model.specs.Span.{firstColumn}
 use Rattle.planes.specs.Parts.{splice, Painted}
 use Rattle.planes.proofs.Entries.{read-at}
 use Rattle.planes.proofs.SeenParts.{part-entry}
-use Rattle.row.specs.Drawing.{firstAt, pixelBelow}
+use Rattle.pixel.specs.declared.Edge.{Edge}
+use Rattle.row.specs.Drawing.{firstAt, spanTop, pixelBelow, EdgeHeld}
 use Rattle.row.proofs.Below.{below-pixel}
-use Rattle.row.proofs.Limits.{limit-true}
+use Rattle.row.proofs.Limits.{limit-true, edge-true}
 use Rattle.trial.specs.Trial.{spanStart, spanStop, Own, Around, standing, tried, combinedWith, errorWith, shownIn, rowTotal, RowHeld, heldError, shownError, Summed, Measured, covered, RowTrial}
 use Rattle.trial.proofs.Candidates.{tried-edited}
 use Rattle.trial.proofs.Positions.{stop-within, outside-span}
@@ -124,8 +127,8 @@ total-positions o l =
     ∙ sum-same (λ p. errorWith o (shownIn r l (entryOf r w p)) (entryOf r w p)) (λ p. errorWith o (pixelAt l p) (entryOf r w p)) w
     (λ p h. ap (λ (q : ℕ). errorWith o (pixelAt l q) (entryOf r w p)) (entry-entry r w p h))
 
-module _ (o : Around) (v : Own) (x : List ℕ) (first : ℕ) (fits : first + length x ≤ length (v .depths)) (some : 0 < length x) (most : length (v .depths) ≤ 4096) (same : length (v .limits) ≡ length (v .depths)) where
-  row-change : (old new : ℕ) → Summed o (length (v .depths)) (pixelBelow (tried (o .right) v x first) (first + length x)) (min (spanStart (placeIn (standing (o .right) v)) (placeIn (tried (o .right) v x first)) first (length x)) (spanStop (v .table) (seen (o .right) (v .depths)) (seen (o .right) (v .limits)) (first + length x))) (spanStop (v .table) (seen (o .right) (v .depths)) (seen (o .right) (v .limits)) (first + length x)) old new → RowHeld o v (first + length x) → rowTotal o (tried (o .right) v x first) + old ≡ rowTotal o (standing (o .right) v) + new
+module _ (o : Around) (v : Own) (x : List ℕ) (first : ℕ) (ok : tableOk (v .table) ≡ true) (fits : first + length x ≤ length (v .depths)) (some : 0 < length x) (most : length (v .depths) ≤ 4096) (same : length (v .limits) ≡ length (v .depths)) (g : Edge) (held : EdgeHeld (seen (o .right) (v .limits)) (first + length x) (spanTop (v .table) (seen (o .right) (v .depths)) (seen (o .right) (v .limits)) (first + length x)) g) where
+  row-change : (old new : ℕ) → Summed o (length (v .depths)) (pixelBelow (tried (o .right) v x first) (first + length x) g) (min (spanStart (placeIn (standing (o .right) v)) (placeIn (tried (o .right) v x first)) first (length x)) (spanStop (v .table) (seen (o .right) (v .depths)) (seen (o .right) (v .limits)) (first + length x))) (spanStop (v .table) (seen (o .right) (v .depths)) (seen (o .right) (v .limits)) (first + length x)) old new → RowHeld o v (first + length x) → rowTotal o (tried (o .right) v x first) + old ≡ rowTotal o (standing (o .right) v) + new
   unfolding shownError heldError
   row-change old new summed truth =
       let r = o .right in
@@ -144,15 +147,22 @@ module _ (o : Around) (v : Own) (x : List ℕ) (first : ℕ) (fits : first + len
       let stop : ℕ = spanStop t d (seen r (v .limits)) m in
       let start : ℕ = min (spanStart (place t d) (place t e) first n) stop in
       let within : stop ≤ w = omega (arith, stop-within t d (seen r (v .limits)) m) in
-      let es : stop ≡ firstAt (limit (place t d) (length d) m) =
-      ap (λ (z : ℕ). firstAt z) (limit-true t d (seen r (v .limits)) m s (length-seen r (v .limits) ∙ same ∙ sym ld) (rw ld most) (omega arith) (rw ld fits) (λ h. truth .limit (rw ld at h))) in
+      let ll : length (seen r (v .limits)) ≡ length d = length-seen r (v .limits) ∙ same ∙ sym ld in
+      let top : spanTop t d (seen r (v .limits)) m ≡ limit (place t d) (length d) m =
+      limit-true t d (seen r (v .limits)) m s ll (rw ld most) (omega arith) (rw ld fits) (λ h. truth .limits m (omega arith) (rw ld at h)) in
+      let es : stop ≡ firstAt (limit (place t d) (length d) m) = ap (λ (z : ℕ). firstAt z) top in
       let el : limit (place t e) (length d) m ≡ limit (place t d) (length d) m = moved-limit (edited-moved t d e first (m - 1) edit) m (omega arith) in
       let out : (p : ℕ) → p < w → (p < spanStart (place t d) (place t e) first n) ⊎ (stop ≤ p) → pixelAt after p ≡ pixelAt before p = λ p h k.
       span-pixel t s d e first (m - 1) p edit (rw ld h) (outside-span (place t d) (place t e) (length d) first n p some (rw es at k)) in
-      let ins : (p : ℕ) → p < stop → pixelBelow after m p ≡ pixelAt after p = λ p h.
-      below-pixel after m p (omega arith) (rw le fits) (rw (edit .same, el) (omega arith)) in
+      let eg : g .limit ≡ limit (place t e) (length e) m = rw (edit .same) (held .limit ∙ top ∙ sym el) in
+      let true-limits : (c : ℕ) → m ≤ c → c < length e → getD (seen r (v .limits)) c (pos 0) ≡ limitAt (line t s e) c = λ c h k.
+      truth .limits c h (rw le at k) ∙ sym (span-limit t s d e first (m - 1) c edit (omega arith)) in
+      let ins : (p : ℕ) → p < stop → pixelBelow after m g p ≡ pixelAt after p = λ p h.
+      below-pixel after m p g (omega arith) (rw le fits) eg
+      (edge-true t s e (seen r (v .limits)) m ok (ll ∙ sym (edit .same)) (rw le most) true-limits g p _ (rw le fits) eg held)
+      (rw (held .limit) (omega arith)) in
       rw (total-positions o after, total-positions o before, le, ld)
-      (sum-change (shownError o w (pixelAt before)) (shownError o w (pixelAt after)) (heldError o w) (shownError o w (pixelBelow after m)) start stop w old new (omega arith) within
+      (sum-change (shownError o w (pixelAt before)) (shownError o w (pixelAt after)) (heldError o w) (shownError o w (pixelBelow after m g)) start stop w old new (omega arith) within
       (λ i h. ap (λ (q : Pixel). errorWith o q (entryOf r w i)) (out i (omega arith) (inl (omega arith))))
       (λ i h l. ap (λ (q : Pixel). errorWith o q (entryOf r w i)) (out i l (inr h)))
       (λ i h l.
@@ -165,7 +175,7 @@ module _ (o : Around) (v : Own) (x : List ℕ) (first : ℕ) (fits : first + len
       (summed .olds) (summed .news))
 
   -- the sums from start to stop are the row's answer
-  pub row-trial : (start stop old new : ℕ) → start ≡ spanStart (placeIn (standing (o .right) v)) (placeIn (tried (o .right) v x first)) first (length x) → stop ≡ spanStop (v .table) (seen (o .right) (v .depths)) (seen (o .right) (v .limits)) (first + length x) → Summed o (length (v .depths)) (pixelBelow (tried (o .right) v x first) (first + length x)) (min start stop) stop old new → RowTrial o v x first old new
+  pub row-trial : (start stop old new : ℕ) → start ≡ spanStart (placeIn (standing (o .right) v)) (placeIn (tried (o .right) v x first)) first (length x) → stop ≡ spanStop (v .table) (seen (o .right) (v .depths)) (seen (o .right) (v .limits)) (first + length x) → Summed o (length (v .depths)) (pixelBelow (tried (o .right) v x first) (first + length x) g) (min start stop) stop old new → RowTrial o v x first old new
   unfolding covered
   row-trial start stop old new es et summed =
       record {

@@ -128,7 +128,7 @@ module _ (s : Settings) (p : Pictures) (d : Depths) (h : Held) (sized : DepthsSi
     row-true : (n : ℕ) → RowHeld (aroundRow (s .w) (aroundOf s p h right) y) (ownRow (s .w) (ownOf s p d h right) y) n
     row-true n =
         record {
-          limit = λ m. true-limit n m;
+          limits = λ c h m. true-limit c m;
           combined = λ i m.
               let l : i < s .w = omega (arith, wide s p d sized right y k) in
               true-sample i l ∙ combined-sample d sized refl i l;

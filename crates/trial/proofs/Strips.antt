@@ -17,10 +17,10 @@ use Rattle.model.proofs.Spans.{edited-moved}
 use Rattle.model.proofs.Views.{length-seen}
 use Rattle.planes.specs.Parts.{splice}
 use Rattle.planes.proofs.SeenParts.{seen-splice}
+use Rattle.pixel.specs.declared.Edge.{Edge}
 use Rattle.pixel.specs.declared.Pair.{Pair}
-use Rattle.pixel.specs.Pairs.{nextPlace, Among}
+use Rattle.pixel.specs.Pairs.{nextPlace, Among, edgeRight}
 use Rattle.row.specs.Drawing.{firstAt, limitUnder, pixelBelow, Ready, lineWith, Ahead, Passed}
-use Rattle.row.proofs.Below.{first-mono}
 use Rattle.row.proofs.Columns.{stands-of}
 use Rattle.row.proofs.Limits.{limit-least}
 use Rattle.row.proofs.Pass.{passed-none, passed-join, passed-pixel}
@@ -51,10 +51,11 @@ module _ (r : Bool) (t s d x : List ℕ) (first column : ℕ) (fits : first + le
       sym (rw (z, edit .same, same))
 
   -- the last column of the candidate is ahead of the positions before its span's end, whatever limits e are held
-  pub first-ahead : (e : List ℤ) (q : Pair) {high stop : ℕ} → 0 < length x → Among r (length d) q → q .column ≡ first + length x - 1 → q .d0 ≡ getD (seen r x) (length x - 1) 0 → q .d1 ≡ getD (seen r d) (first + length x) 0 → q .here ≡ quarter (q .column) - getD t (q .d0) 0 → q .next ≡ nextPlace t (seen r d) (first + length x - 1) → high ≡ limitUnder e (first + length x) (q .next) → stop ≡ firstAt high → Ahead r (lineWith r t s d column x) stop q
-  first-ahead e q some among ec e0 e1 eh en el es =
+  pub first-ahead : (e : List ℤ) (q : Pair) (g : Edge) {high stop : ℕ} → 0 < length x → Among r (length d) q → q .column ≡ first + length x - 1 → q .d0 ≡ getD (seen r x) (length x - 1) 0 → q .d1 ≡ getD (seen r d) (first + length x) 0 → q .here ≡ quarter (q .column) - getD t (q .d0) 0 → q .next ≡ nextPlace t (seen r d) (first + length x - 1) → edgeRight q ≡ g → g .limit ≡ high → high ≡ limitUnder e (first + length x) (q .next) → stop ≡ firstAt high → Ahead r (lineWith r t s d column x) stop q
+  first-ahead e q g {high} some among ec e0 e1 eh en er eg el es =
       let inside : q .column - first ≡ length x - 1 = omega arith in
       let after : q .column + 1 ≡ first + length x = omega arith in
+      let limit : q .limit ≡ high = ap (λ (h : Edge). h .limit) er ∙ eg in
       rw tried-line
       (record {
         among = rw (length-tried r d x first fits) among;
@@ -63,7 +64,8 @@ module _ (r : Bool) (t s d x : List ℕ) (first column : ℕ) (fits : first + le
             (e1 ∙ sym (ap (λ (k : ℕ). getD (splice (seen r d) first (seen r x)) k 0) after ∙ tried-beyond r d x first fits (first + length x) (omega arith)))
             eh
             (en ∙ next-stays some ∙ ap (nextPlace t (splice (seen r d) first (seen r x))) (sym ec));
-        before = rw (es, el) (first-mono (limit-least e (first + length x) (q .next)));
+        under = rw (limit, el) (limit-least e (first + length x) (q .next));
+        before = rw (limit, es) (omega arith);
       })
 
 -- ---- the strips
@@ -74,11 +76,11 @@ pub record Strips (o : Around) (l : Line) (q₀ : Pair) (start stop top : ℕ) (
   pub high : top ≤ stop
   pub ahead : Ahead (o .right) l top q
   pub passed : Passed l q₀ q top
-  pub summed : Summed o (width l) (pixelBelow l (q₀ .column + 1)) top stop old new
+  pub summed : Summed o (width l) (pixelBelow l (q₀ .column + 1) (edgeRight q₀)) top stop old new
 
 pub strips-start : {o : Around} {l : Line} {q : Pair} {stop : ℕ} (start : ℕ) → Ahead (o .right) l stop q → Strips o l q start stop stop q 0 0
 strips-start {o} {l} {q} {stop} start h =
-    record { low = omega arith; high = omega arith; ahead = h; passed = passed-none l q stop; summed = summed-none o (width l) (pixelBelow l (q .column + 1)) stop }
+    record { low = omega arith; high = omega arith; ahead = h; passed = passed-none l q stop; summed = summed-none o (width l) (pixelBelow l (q .column + 1) (edgeRight q)) stop }
 
 module _ {o : Around} {l : Line} {q₀ q : Pair} {start stop top old new : ℕ} (s : Strips o l q₀ start stop top q old new) where
   pub strips-next : {bottom x y : ℕ} {r : Pair} → start ≤ bottom → bottom < top → Stretch o l bottom top q r x y → Strips o l q₀ start stop bottom r (old + x) (new + y)
@@ -88,8 +90,8 @@ module _ {o : Around} {l : Line} {q₀ q : Pair} {start stop top old new : ℕ} 
         high = omega (arith, s .high);
         ahead = t .ahead;
         passed = passed-join (s .passed) (t .passed) (omega arith);
-        summed = summed-join (s .summed) (summed-change (t .summed) (pixelBelow l (q₀ .column + 1)) (omega arith) (λ p a b. passed-pixel p (s .passed) b));
+        summed = summed-join (s .summed) (summed-change (t .summed) (pixelBelow l (q₀ .column + 1) (edgeRight q₀)) (omega arith) (λ p a b. passed-pixel p (s .passed) b));
       }
 
-  pub strips-end : top ≤ start → Summed o (width l) (pixelBelow l (q₀ .column + 1)) (min start stop) stop old new
+  pub strips-end : top ≤ start → Summed o (width l) (pixelBelow l (q₀ .column + 1) (edgeRight q₀)) (min start stop) stop old new
   strips-end h = let e : top ≡ min start stop = omega (arith, s .low, s .high) in rw e at (s .summed)

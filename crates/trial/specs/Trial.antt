@@ -20,6 +20,7 @@ use Rattle.planes.specs.Parts.{splice}
 use Rattle.marks.specs.Puts.{heldPixel}
 use Rattle.sums.specs.Sides.{paired}
 use Rattle.pixel.specs.declared.Pair.{Pair}
+use Rattle.pixel.specs.Pairs.{edgeRight}
 use Rattle.row.specs.Drawing.{firstAt, spanTop, pixelBelow, Ahead, Passed}
 
 -- ---- the span's positions
@@ -99,9 +100,9 @@ shownIn right l i = pixelAt l (entryOf right (width l) i)
 unfoldable pub rowTotal : Around → Line → ℕ
 rowTotal o l = sumTo (λ i. errorWith o (shownIn (o .right) l i) i) (width l)
 
--- The row holds the truth, for an edit of columns below n: the limit of column n, and the combined row.
+-- The row holds the truth, for an edit of columns below n: the limits from column n on, and the combined row.
 pub record RowHeld (o : Around) (v : Own) (n : ℕ) : Type 0 where
-  pub limit : n < length (v .depths) → getD (seen (o .right) (v .limits)) n (pos 0) ≡ limitAt (standing (o .right) v) n
+  pub limits : (c : ℕ) → n ≤ c → c < length (v .depths) → getD (seen (o .right) (v .limits)) c (pos 0) ≡ limitAt (standing (o .right) v) c
   pub combined : (i : ℕ) → i < length (v .depths) → getD (o .combined) i 0 ≡ combinedWith o (shownIn (o .right) (standing (o .right) v) i) i
 
 -- the squared error at position p of a row of w, as the view reads it: of the held combined row, and where the view shows the pixels g
@@ -127,7 +128,7 @@ pub record Measured (o : Around) (from n : ℕ) (g : ℕ → Pixel) (old new : �
 
 -- What is tried of the positions from `start` up to `stop`, drawn from the pair q of the row l; from the pair r those before them can be drawn.
 pub record Stretch (o : Around) (l : Line) (start stop : ℕ) (q r : Pair) (old new : ℕ) : Type 0 where
-  pub summed : Summed o (width l) (pixelBelow l (q .column + 1)) start stop old new
+  pub summed : Summed o (width l) (pixelBelow l (q .column + 1) (edgeRight q)) start stop old new
   pub ahead : Ahead (o .right) l start r
   pub passed : Passed l q r start
 

@@ -15,6 +15,7 @@ ghost use Rattle.planes.specs.Parts.{splice, blockOf};
 ghost use Rattle.marks.specs.Puts.{heldPixel};
 ghost use Rattle.sums.specs.Squares.{Squares};
 ghost use Rattle.sums.specs.Sides.{paired};
+ghost use Rattle.pixel.specs.Pairs.{edgeRight};
 ghost use Rattle.row.specs.Drawing.{Ready, pixelBelow, lineWith, Ahead};
 ghost use Rattle.trial.specs.Trial.{
   Beside,
@@ -47,7 +48,7 @@ struct Strip {
     pair: Pair,
 }
 
-// The first position that the candidate can change: the least of the old and the new places, column by column from the right.
+// The first position that the candidate can change: one quarter below the least of the old and the new places, column by column from the right.
 fn span_start(
     right: bool,
     table: &[u16; 256],
@@ -71,7 +72,7 @@ fn span_start(
         let new = row::place_at(table, first + n, candidate[k]);
         low = row::least(row::least(old, new), low);
     }
-    row::first_at(low)
+    row::first_at(row::quarter_before(low))
 }
 
 // A squared error in a sum.
@@ -317,7 +318,7 @@ fn trial_strips(
     requires { ⌜ (Ready (lineWith right (now table) (now texture) (now depths) column (now candidate))) × ((column + length (now candidate) ≤ length (now depths)) × (length (now reference) ≡ length (now depths))) ⌝ }
     requires { ⌜ Ahead right (lineWith right (now table) (now texture) (now depths) column (now candidate)) stop from ⌝ }
     ensures { λ r. ⌜ Summed (around right share tolerance (now (samples .entry)) (now (fronts .entry)) (now (marks .entry)) (now (combined .entry)) (now (reference .entry))) (length (now (reference .entry)))
-        (pixelBelow (lineWith right (now (table .entry)) (now (texture .entry)) (now (depths .entry)) column (now (candidate .entry))) (from .column + 1)) (min start stop) stop (r .old) (r .new) ⌝ }
+        (pixelBelow (lineWith right (now (table .entry)) (now (texture .entry)) (now (depths .entry)) column (now (candidate .entry))) (from .column + 1) (edgeRight from)) (min start stop) stop (r .old) (r .new) ⌝ }
 {
     let mut q = from;
     let mut top = stop;
@@ -386,7 +387,8 @@ fn trial_row(
     let high = row::limit_under(right, limits, n, next);
     let d0 = row::at(right, candidate, width - 1);
     let d1 = row::at(right, depths, n);
-    let from = row::pair_of(right, table, w, n - 1, d0, d1, next);
+    let edge = row::edge_of(right, limits, n, high);
+    let from = row::pair_of(right, table, w, n - 1, d0, d1, next, edge);
     trial_strips(
         right,
         table,

@@ -171,6 +171,22 @@ fn session_turn(i: usize) -> Turn {
     }
 }
 
+// The turns at a near edge of each view, from 40 on. At the last of each its column lies two past the block's and is the greater of two that are
+// placed there, and the answer depends on it.
+fn edge_turn(i: usize) -> Turn {
+    match i {
+        40 => writes(0, 2, 7, 400),
+        41 => writes(0, 3, 11, 500),
+        42 => writes(0, 1, 3, -900),
+        43 => writes(0, 1, 0, 900),
+        44 => writes(1, 1, 7, 400),
+        45 => writes(1, 0, 11, 500),
+        46 => writes(1, 2, 3, -900),
+        47 => writes(1, 2, 0, 900),
+        _ => session_turn(i),
+    }
+}
+
 // The turns of the other cases, from 20 on; an earlier one is the session's.
 fn turn_of(i: usize) -> Turn {
     match i {
@@ -189,7 +205,7 @@ fn turn_of(i: usize) -> Turn {
         32 => any(1, 2, 1, 2),
         33 => any(2, 0, 1, 1),
         34 => any(0, 0, 1, 1),
-        _ => session_turn(i),
+        _ => edge_turn(i),
     }
 }
 
@@ -923,6 +939,8 @@ fn run_taken() {
     small(b"share 64", settings(4, 1, 255, 255, 64), 20, 21);
     small(b"left entry 1023", settings(4, 1, 1023, 255, 0), 21, 22);
     small(b"right entry 1023", settings(4, 1, 255, 1023, 0), 22, 23);
+    small(b"near edge", settings(4, 1, 255, 255, 0), 40, 44);
+    small(b"near edge, right", settings(4, 1, 255, 255, 64), 44, 48);
 }
 
 // What every entry of a session refuses.
@@ -969,6 +987,15 @@ fn run_strips() {
     let most = [3u8; 4];
     strip(b"row k 3", settings(4, 1, 255, 255, 0), 0, &most);
     strip(b"row k 3, right", settings(4, 1, 255, 255, 0), 1, &most);
+    let left = [0u8, 0, 7, 0];
+    strip(b"row near edge", settings(4, 1, 255, 255, 0), 0, &left);
+    let right = [0u8, 7, 0, 0];
+    strip(
+        b"row near edge, right",
+        settings(4, 1, 255, 255, 0),
+        1,
+        &right,
+    );
     wide_strip(b"row w 4096", settings(4096, 1, 255, 255, 0), 1);
     strip(
         b"row h 0, share 65",

@@ -64,6 +64,21 @@ impl LeftRow<'_> {
         self.place(c + 1) - self.place(c)
     }
 
+    /// A near edge begins at the rounded place (card 7): let c be the owner of p, not the last column, and m the limit of
+    /// c + 1. Where the place of c + 1 is above m and m − 4 × p is at most 1, p shows the greatest column placed at m.
+    pub fn near_edge(&self, p: usize) -> Option<usize> {
+        let c = self.owner(p);
+        if c == self.w() - 1 {
+            return None;
+        }
+        let m = self.limit(c + 1);
+        if self.place(c + 1) > m && m - 4 * p as i32 <= 1 {
+            (0..self.w()).rev().find(|&e| self.place(e) == m)
+        } else {
+            None
+        }
+    }
+
     /// The filter of k over columns c − 3 to c + 4, ends repeated, before it is held to 0 to 255.
     pub fn filtered(&self, c: usize, k: usize) -> i32 {
         let last = self.w() as i32 - 1;
@@ -78,6 +93,9 @@ impl LeftRow<'_> {
         let plain = |c: usize, mark: u8| Pixel { sample: self.texture[c], mark, front: self.depths[c] };
         if c == self.w() - 1 {
             return plain(c, u8::from(t > 1));
+        }
+        if let Some(near) = self.near_edge(p) {
+            return plain(near, 0);
         }
         let gap = self.gap(c);
         if gap <= 0 {
@@ -354,6 +372,7 @@ pub fn span(settings: &Settings, view: usize, block: Block, old: &[u8], new: &[u
     if a > 0 {
         low = low.min(old.place(a - 1));
     }
+    low -= 1; // card 7
     let shown = |p: usize| low <= 4 * p as i32 && (b == w - 1 || 4 * (p as i32) < old.limit(b + 1));
     let mut span = Span { shown: (0..w).map(shown).collect(), limits: (0..w).map(|c| c <= b).collect() };
     if view == 1 {

@@ -104,6 +104,19 @@ pub fn table(random: &mut Random, w: usize) -> [u16; 256] {
     }
 }
 
+/// Disparities of a ground, up to depth 127, and of near things before it. Most of these are 3 above a multiple of 4, so that
+/// the place is 1 above one; where they rise by 4, neighbours may share a place.
+fn near_table(random: &mut Random, w: usize) -> [u16; 256] {
+    let (ground, most) = (random.pick(&[0, 0, 2, 9]), random.pick(&[11, 19, 2 * w, 4 * w]).clamp(11, 1020));
+    let rises = random.once_in(2);
+    std::array::from_fn(|d| match random.between(0, 5) {
+        _ if d < 128 => random.between(0, ground) as u16,
+        _ if rises => (4 * (d - 128) + 3) as u16,
+        0 => random.between(0, most) as u16,
+        _ => (random.between(0, most) | 3) as u16,
+    })
+}
+
 /// A plane of samples or depths: noise, few levels, a slope, or rectangles on a ground.
 pub fn plane(random: &mut Random, w: usize, h: usize) -> Vec<u8> {
     let (low, high) = (random.byte(), random.byte());
@@ -121,6 +134,23 @@ pub fn plane(random: &mut Random, w: usize, h: usize) -> Vec<u8> {
             plane
         }
     }
+}
+
+/// Depths of a ground, flat or not, with things before it that are one to three columns wide, their columns as near as each
+/// other or nearer from one to the next.
+fn near_plane(random: &mut Random, w: usize, h: usize) -> Vec<u8> {
+    let (ground, rough) = (random.byte() % 128, random.once_in(3));
+    let mut plane: Vec<u8> = (0..w * h).map(|_| if rough { random.byte() % 128 } else { ground }).collect();
+    for _ in 0..random.between(1, 1 + w * h / 16) {
+        let (column, row) = (random.between(0, w - 1), random.between(0, h - 1));
+        let (width, height) = (random.between(1, 3.min(w - column)), random.between(1, h - row));
+        let (depth, rise) = (129 + random.between(0, w.min(240) / 2), random.pick(&[0, 0, 1, -1]));
+        for k in 0..width {
+            let b = Block { column: (column + k) as u32, row: row as u32, width: 1, height: height as u32 };
+            fill(&mut plane, w, b, (depth as i32 + rise * k as i32) as u8);
+        }
+    }
+    plane
 }
 
 /// A plane of samples: any plane, or black and white in runs of 1 to 4, where the filter passes 0 and 255.
@@ -160,7 +190,27 @@ pub fn block(random: &mut Random, w: usize, h: usize) -> Block {
     Block { column: column as u32, row: row as u32, width: width as u32, height: height as u32 }
 }
 
-/// Candidate depths for a block: flat, noise, few levels, or the depths as they are, some or none of them moved.
+/// A block to edit: any, or one that ends just left of a near thing, as the view reads the row, and reaches back to the
+/// position before the thing's place.
+pub fn edited_block(random: &mut Random, settings: &Settings, view: usize, depths: &[u8]) -> Block {
+    let (w, h) = (settings.w as usize, settings.h as usize);
+    let (y, table) = (random.between(0, h - 1), [&settings.left, &settings.right][view]);
+    let place = |c: usize| 4 * c as i32 - i32::from(table[usize::from(depths[y * w + if view == 0 { c } else { w - 1 - c }])]);
+    let things: Vec<usize> = (1..w).filter(|&c| place(c) < place(c - 1)).collect();
+    if things.is_empty() || random.once_in(3) {
+        return block(random, w, h);
+    }
+    let thing = random.pick(&things);
+    let edge = place(thing).div_euclid(4).max(0) as usize;
+    let end = random.between(edge + 1, thing);
+    let first = random.between(edge.saturating_sub(2), (edge + 1).min(end - 1));
+    let (row, last) = (random.between(0, y), random.between(y, h - 1));
+    let column = if view == 0 { first } else { w - end };
+    Block { column: column as u32, row: row as u32, width: (end - first) as u32, height: (last - row + 1) as u32 }
+}
+
+/// Candidate depths for a block: flat, noise, few levels, any depths of the plane, or the depths as they are, some or none of
+/// them moved.
 pub fn candidate(random: &mut Random, w: usize, depths: &[u8], block: Block) -> Vec<u8> {
     let area = (block.width * block.height) as usize;
     let now = || -> Vec<u8> {
@@ -168,12 +218,13 @@ pub fn candidate(random: &mut Random, w: usize, depths: &[u8], block: Block) -> 
         rows.flat_map(|y| depths[y * w + block.column as usize..][..block.width as usize].to_vec()).collect()
     };
     let (low, high) = (random.byte(), random.byte());
-    match random.between(0, 9) {
+    match random.between(0, 11) {
         0 => now(),
         1..=3 => now().into_iter().map(|d| if random.once_in(4) { d.wrapping_add(random.byte() % 16) } else { d }).collect(),
         4 | 5 => vec![low; area],
         6 => vec![random.pick(depths); area],
         7 => (0..area).map(|_| random.pick(&[low, high])).collect(),
+        8 | 9 => (0..area).map(|_| random.pick(depths)).collect(),
         _ => random.bytes(area),
     }
 }
@@ -187,20 +238,23 @@ pub struct Scene {
 }
 
 impl Scene {
-    /// A scene with this share and tolerance.
+    /// A scene with this share and tolerance: one in three has thin near things before a ground.
     pub fn new(random: &mut Random, share: u8, tolerance: u8) -> Scene {
         let (w, h) = size(random);
         Scene::sized(random, w, h, share, tolerance)
     }
 
     pub fn sized(random: &mut Random, w: usize, h: usize, share: u8, tolerance: u8) -> Scene {
-        let left = table(random, w);
-        let right = if random.once_in(2) { left } else { table(random, w) };
+        let near = random.once_in(3);
+        let table = |random: &mut Random| if near { near_table(random, w) } else { table(random, w) };
+        let left = table(random);
+        let right = if random.once_in(2) { left } else { table(random) };
         let total = random.next();
         let settings = Settings { w: w as u32, h: h as u32, left, right, share, tolerance, total };
         let textures = [texture(random, w, h), texture(random, w, h)];
         let reference = if random.once_in(3) { textures[0].clone() } else { texture(random, w, h) };
-        Scene { settings, textures, reference, depths: [plane(random, w, h), plane(random, w, h)] }
+        let mut depths = || if near { near_plane(random, w, h) } else { plane(random, w, h) };
+        Scene { settings, textures, reference, depths: [depths(), depths()] }
     }
 
     pub fn pictures(&self) -> Pictures<'_> {
@@ -265,10 +319,7 @@ impl GuardedPlanes {
         let mut pair = |n: usize| [(); 2].map(|()| Guarded::new(&random.bytes(n), 0xa5));
         let (samples, fronts, marks) = (pair(w * h), pair(w * h), pair(w.div_ceil(8) * h));
         let combined = Guarded::new(&random.bytes(w * h), 0xa5);
-        let limits = [(); 2].map(|()| {
-            let entries: Vec<i16> = (0..w * h).map(|_| garbage_limit(random)).collect();
-            Guarded::new(&entries, -23206)
-        });
+        let limits = [(); 2].map(|()| Guarded::new(&garbage_limits(random, w * h), -23206));
         GuardedPlanes { depths: depths.map(|plane| Guarded::new(plane, 0xa5)), samples, fronts, limits, marks, combined }
     }
 
@@ -300,11 +351,23 @@ impl GuardedPlanes {
     }
 }
 
+/// Limits of no session, each on its own or in runs of one limit.
+fn garbage_limits(random: &mut Random, n: usize) -> Vec<i16> {
+    let longest = random.pick(&[1, 1, 9, 4096]);
+    let mut limits = Vec::new();
+    while limits.len() < n {
+        limits.resize(limits.len() + random.between(1, longest), garbage_limit(random));
+    }
+    limits.truncate(n);
+    limits
+}
+
 /// A limit that may be right, wrong, or far off.
-fn garbage_limit(random: &mut Random) -> i16 {
-    match random.between(0, 3) {
+pub fn garbage_limit(random: &mut Random) -> i16 {
+    match random.between(0, 4) {
         0 => random.pick(&[i16::MIN, i16::MAX, -1024, -1023, -1, 0, 1, 16384]),
         1 => random.next() as i16,
+        2 => 4 * random.between(0, 60) as i16 + 1,
         _ => random.between(0, 1200) as i16 - 1000,
     }
 }

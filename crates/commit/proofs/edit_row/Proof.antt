@@ -11,13 +11,14 @@ use Rattle.commit.proofs.edit_row.Tie as tie
 
 returns : tie.Need-returns
 returns c =
-    let s = c .before .before .before .before .before .before .before .before .before .before in
+    let s = c .before .before .before .before .before .before .before .before .before .before .before in
     let a = s .args in
-    let wr = c .before .before .before .before .write in
+    let wr = c .before .before .before .before .before .write in
     record {
       depths = put-back (now (a .depths)) (wr .last .0) (a .column) (length (now (a .candidate))) (ap length (wr .ensures))
           ∙ ap (splice (now (a .depths)) (a .column)) (wr .ensures);
-      low = low-is _ _ _ _ (a .first) (length (now (a .candidate))) (s .pre .1 .0) (c .before .before .before .before .before .before .row-low .ensures) (c .least-place .ensures);
+      low = c .quarter-before .ensures
+          ∙ low-is _ _ _ _ (a .first) (length (now (a .candidate))) (s .pre .1 .0) (c .before .before .before .before .before .before .before .row-low .ensures) (c .before .least-place .ensures);
     }
 
 pub edit-row-spec : {M : Type 1} → statement M
@@ -29,6 +30,7 @@ edit-row-spec =
     (λ c. search needs)
     (λ c. search needs)
     (λ c. search needs)
+    (λ c κs. search needs)
     (λ c κs. search needs)
     (λ c κs. search needs)
     (λ c. search needs)

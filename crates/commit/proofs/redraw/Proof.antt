@@ -9,7 +9,7 @@ use Rattle.model.specs.Row.{line}
 use Rattle.model.specs.Views.{seen}
 use Rattle.model.proofs.Views.{length-seen, seen-seen}
 use Rattle.planes.proofs.Splices.{part-length}
-use Rattle.row.proofs.Below.{first-mono, first-within}
+use Rattle.row.proofs.Below.{first-within}
 use Rattle.row.proofs.Wholes.{ready-seen}
 use Rattle.commit.proofs.Drawn.{redrawn-none, redrawn-some}
 use Rattle.commit.proofs.redraw.Statement.{statement}
@@ -22,7 +22,7 @@ returns c =
     let w = length (now (a .depths)) in
     let st = c .before .before .first-at in
     let en = c .before .first-at2 in
-    redrawn-none (a .right) (line (now (a .table)) (seen (a .right) (now (a .texture))) (seen (a .right) (now (a .depths)))) (a .columns) (a .low) (a .high) (st .result) (en .result) (st .ensures) (en .ensures) w (a .y) (now (a .samples)) (now (a .fronts)) (now (a .marks)) (c .if1 .taken)
+    redrawn-none (a .right) (line (now (a .table)) (seen (a .right) (now (a .texture))) (seen (a .right) (now (a .depths)))) (a .columns) (a .low) (a .edge) (st .result) (en .result) (st .ensures) (en .ensures) w (a .y) (now (a .samples)) (now (a .fronts)) (now (a .marks)) (c .if1 .taken)
 
 part-start-requires : tie.Need-part-start-requires
 part-start-requires c κs =
@@ -30,7 +30,7 @@ part-start-requires c κs =
     let a = s .args in
     let en = c .before .first-at2 in (
       omega (arith, c .if1 .left),
-      rw (en .ensures, ← length-seen (a .right) (now (a .depths))) (first-within (now (a .table)) (seen (a .right) (now (a .depths))) (a .columns - 1) (a .high) (s .pre .1 .0 .1 .1)),
+      rw (en .ensures, ← length-seen (a .right) (now (a .depths))) (first-within (now (a .table)) (seen (a .right) (now (a .depths))) (a .columns - 1) (a .edge .limit) (s .pre .1 .0 .1 .1 .under)),
     )
 
 draw-stretch-requires : tie.Need-draw-stretch-requires
@@ -48,7 +48,8 @@ draw-stretch-requires c κs =
       ready = rw (seen-seen (a .right) (now (a .texture)), seen-seen (a .right) (now (a .depths))) at (ready-seen (a .right) (now (a .table)) (seen (a .right) (now (a .texture))) (seen (a .right) (now (a .depths))) (s .pre .0));
       some = s .pre .1 .0 .0;
       columns = rw ld at (s .pre .1 .0 .1 .0);
-      before = rw ls (omega (arith, c .before .before .before .before .if1 .left, en .ensures, first-mono (s .pre .1 .0 .1 .1)));
+      edged = s .pre .1 .0 .1 .1;
+      before = rw ls (omega (arith, c .before .before .before .before .if1 .left, en .ensures));
       fronts = lf ∙ sym ls;
       marks = rw ls (omega (arith, p .ensures .1, s .pre .1 .1 .1 .1));
       most = rw ls (omega (arith, p .ensures .1, ld, s .pre .0 .most));
@@ -63,7 +64,7 @@ returns-2 c =
     let en = c .before .before .before .before .before .before .before .before .before .before .before .before .first-at2 in
     let p = c .before .before .before .before .before .before .before .before .before .before .part-start in
     let ds = c .before .before .before .before .before .before .draw-stretch in
-    redrawn-some (a .right) (line (now (a .table)) (seen (a .right) (now (a .texture))) (seen (a .right) (now (a .depths)))) (a .columns) (a .low) (a .high) (st .result) (en .result) (st .ensures) (en .ensures) w (a .y) (now (a .samples)) (now (a .fronts)) (now (a .marks)) (p .result) _ (ds .last .1 .1 .1 .1 .1 .1 .1 .0) (ds .last .1 .1 .1 .1 .1 .1 .1 .1 .0)
+    redrawn-some (a .right) (line (now (a .table)) (seen (a .right) (now (a .texture))) (seen (a .right) (now (a .depths)))) (a .columns) (a .low) (a .edge) (st .result) (en .result) (st .ensures) (en .ensures) w (a .y) (now (a .samples)) (now (a .fronts)) (now (a .marks)) (p .result) _ (ds .last .1 .1 .1 .1 .1 .1 .1 .1 .0) (ds .last .1 .1 .1 .1 .1 .1 .1 .1 .1 .0)
     (part-length (now (a .samples)) (a .y * w + p .result) (en .result - st .result) (omega (arith, p .ensures .1, s .pre .1 .1 .0))) (p .ensures .0) (p .ensures .1) (ds .ensures)
 
 pub redraw-spec : {M : Type 1} → statement M

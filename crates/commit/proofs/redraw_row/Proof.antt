@@ -33,7 +33,7 @@ returns c =
     let s = c .before .before .before .before .before .before .before .before .before .before .before .before .before .before .before .before .before in
     let a = s .args in
     let rd = c .before .before .before .before .before .before .redraw in
-    redrawn-row (a .right) (a .w) (a .y) (a .columns) (a .low) (a .high) _ _ (now (a .table)) (now (a .texture)) (now (a .depths)) (now (a .samples)) (now (a .fronts)) (now (a .marks)) _ _ (rd .last .1 .1 .1 .1 .1 .1 .1 .1 .1 .1 .0)
+    redrawn-row (a .right) (a .w) (a .y) (a .columns) (a .low) (a .edge) _ _ (now (a .table)) (now (a .texture)) (now (a .depths)) (now (a .samples)) (now (a .fronts)) (now (a .marks)) _ _ (rd .last .1 .1 .1 .1 .1 .1 .1 .1 .1 .1 .0)
     (part-row (now (a .texture)) (a .w) (a .y)) (part-row (now (a .depths)) (a .w) (a .y)) (part-row (now (a .marks)) (markBytes (a .w)) (a .y))
     (part-length (now (a .depths)) (a .y * a .w) (a .w) (s .pre .1 .1 .0 .1)) (s .pre .1 .1 .1 .1 .1)
     (rd .kept .1 .1 .1 .1 .1 .1 .1 .1 .1 .1 .0 ∙ part-length (now (a .marks)) (a .y * markBytes (a .w)) (markBytes (a .w)) (s .pre .1 .1 .1 .1 .1)) (rd .ensures)

@@ -1,8 +1,8 @@
 use Prim.Native.Nat.{_<_}
 -- `row::draw_positions` meets its contract: the positions from i on are drawn, the pair is ahead of those below it, and the columns passed
 -- lie past them (proofs/Pass).
-use Prim.Native.Nat.{ℕ, _+_, _-_, _≤_}
-use mathlib.Core.Path.{_≡_, refl, sym, ap, _∙_}
+use Prim.Native.Nat.{_+_, _-_, _≤_}
+use mathlib.Core.Path.{_≡_, refl, sym, _∙_}
 use native.Mathlib.Omega.{arith}
 use denote.Ref.{now}
 use lib.ListN.{length}
@@ -11,10 +11,9 @@ use Rattle.model.proofs.Views.{length-seen}
 use Rattle.planes.specs.Parts.{splice, Painted}
 use Rattle.planes.proofs.Paints.{painted-none, painted-back}
 use Rattle.planes.proofs.Splices.{length-splice}
-use Rattle.pixel.proofs.Pairs.{next-most}
-use Rattle.row.specs.Drawing.{pixelBelow, lineWith, Ahead, Passed, SpanDrawn}
-use Rattle.row.proofs.Pass.{ahead-less, ahead-within, ahead-next, step-column, step-ahead, passed-none, passed-less, step-passed, owner-passed}
-use borrow.Author.Needs.{needs}
+use Rattle.pixel.specs.Pairs.{edgeRight}
+use Rattle.row.specs.Drawing.{pixelBelow, lineWith, Ahead, Passed}
+use Rattle.row.proofs.Pass.{ahead-less, ahead-within, ahead-edge, step-column, step-ahead, passed-none, passed-less, step-passed, owner-passed}
 use Rattle.row.proofs.draw_positions.Statement.{statement}
 use Rattle.row.proofs.draw_positions.Tie as tie
 
@@ -26,7 +25,7 @@ Inv-loop right table texture depths candidate column start samples₀ fronts₀ 
     × ((length flags ≡ length samples₀)
     × ((Ahead right (lineWith right table texture depths column candidate) (start + i) q)
     × ((Passed (lineWith right table texture depths column candidate) q₀ q (start + i))
-    × Painted (λ k. pixelBelow (lineWith right table texture depths column candidate) (q₀ .column + 1) (start + k)) i (length samples₀) (seen right samples₀) (seen right fronts₀) (seen right flags₀) (seen right samples) (seen right fronts) (seen right flags))))))
+    × Painted (λ k. pixelBelow (lineWith right table texture depths column candidate) (q₀ .column + 1) (edgeRight q₀) (start + k)) i (length samples₀) (seen right samples₀) (seen right fronts₀) (seen right flags₀) (seen right samples) (seen right fronts) (seen right flags))))))
 
 abbrev μ-loop : tie.MeasureT-loop
 μ-loop right table texture depths candidate column start samples₀ fronts₀ flags₀ q₀ i₀ samples fronts flags q i = q .column + i
@@ -107,13 +106,13 @@ loop-again c =
     let some : 0 < a .start + i .i = omega (arith, c .before .before .before .loop-test .taken) in
     let e = c .step .ensures in
     let k = c .before .if1 .taken in
-    (v .0, (v .1 .0, (v .1 .1 .0, (v .1 .1 .1 .0, (step-ahead h some k (e .1 .0) (rw wide (e .1 .1 .0)) (e .1 .1 .1), (step-passed (v .1 .1 .1 .1 .1 .0) h some k (e .0), v .1 .1 .1 .1 .1 .1))))))
+    (v .0, (v .1 .0, (v .1 .1 .0, (v .1 .1 .1 .0, (step-ahead h some k (e .1 .0) (e .1 .1 .0) (rw wide (e .1 .1 .1 .0)) (e .1 .1 .1 .1), (step-passed (v .1 .1 .1 .1 .1 .0) h some k (e .0) (e .1 .1 .0), v .1 .1 .1 .1 .1 .1))))))
 
 sub-i : tie.Need-sub-i Inv-loop μ-loop
 sub-i c = omega (arith, c .before .before .loop-test .taken)
 
-pixel-of-requires : tie.Need-pixel-of-requires Inv-loop μ-loop
-pixel-of-requires c κs =
+shown-at-requires : tie.Need-shown-at-requires Inv-loop μ-loop
+shown-at-requires c κs =
     let s = c .before .before .before .before .before .before .before .before .before .before in
     let a = s .args in
     let p = s .pre in
@@ -121,8 +120,9 @@ pixel-of-requires c κs =
     let v = i .inv in
     let h = v .1 .1 .1 .1 .0 in
     let some : 0 < a .start + i .i = omega (arith, c .before .before .loop-test .taken) in
-    let same : length (now (a .texture)) ≡ length (seen (a .right) (splice (now (a .depths)) (a .column) (now (a .candidate)))) = sym (length-seen (a .right) (now (a .texture))) ∙ p .0 .0 .texture in
-    (rw same (h .among), (c .if1 .left, (ahead-next h some, omega (arith, ahead-within h .0, p .0 .0 .most))))
+    let wide = length-seen (a .right) (splice (now (a .depths)) (a .column) (now (a .candidate))) ∙ length-splice (now (a .depths)) (a .column) (now (a .candidate)) (p .0 .1) in
+    let same = sym (length-seen (a .right) (now (a .texture))) ∙ p .0 .0 .texture ∙ wide in
+    ((same, p .0 .1), (rw wide at (h .among), (c .if1 .left, (ahead-edge h some, (h .under, rw wide at (ahead-within h .0))))))
 
 put-pixel-requires : tie.Need-put-pixel-requires Inv-loop μ-loop
 put-pixel-requires c κs =
@@ -147,7 +147,7 @@ loop-again-2 c =
     let k = c .before .before .before .before .before .before .put-pixel .kept in
     let e = c .before .before .before .before .before .before .put-pixel .ensures in
     let o = owner-passed (v .1 .1 .1 .1 .1 .0) h some (p .0 .0 .texture) (c .before .before .before .before .before .before .before .before .before .before .before .if1 .left) in
-    let shown = c .before .before .before .before .before .before .before .before .before .before .pixel-of in
+    let shown = c .before .before .before .before .before .before .before .before .before .before .shown-at in
     let first : i .i - 1 < length (now (a .samples)) = omega (arith, v .0) in (
       omega (arith, v .0),
       (
@@ -217,7 +217,7 @@ draw-positions-spec =
     loop-less
     loop-again
     sub-i
-    pixel-of-requires
+    shown-at-requires
     put-pixel-requires
     loop-less-2
     loop-again-2

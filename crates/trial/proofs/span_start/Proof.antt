@@ -4,15 +4,14 @@ use Prim.Native.Nat.{ℕ, _+_, _-_, _<_, _≤_, min}
 use mathlib.Core.Path.{_≡_, refl, sym, ap, _∙_}
 use native.Mathlib.Omega.{arith}
 use denote.Ref.{now}
-use lib.ListN.{length, getD}
+use lib.ListN.{length}
 use borrow.Author.Needs.{needs}
-use Rattle.model.specs.Row.{place, quarter, least}
+use Rattle.model.specs.Row.{place, least}
 use Rattle.model.specs.Views.{seen}
 use Rattle.planes.specs.Parts.{splice}
 use Rattle.planes.proofs.Entries.{read-at}
 use Rattle.row.specs.Drawing.{firstAt}
 use Rattle.row.proofs.Lows.{least-none, least-back, least-all}
-use Rattle.trial.specs.Trial.{spanStart}
 use Rattle.trial.proofs.Candidates.{tried-place, part-within, part-read}
 use Rattle.trial.proofs.Positions.{start-is}
 use Rattle.trial.proofs.span_start.Statement.{statement}
@@ -78,14 +77,16 @@ loop-again c =
 
 returns : tie.Need-returns Inv-loop μ-loop
 returns c =
-    let s = c .before .before .before .before .before .before .before in
+    let s = c .before .before .before .before .before .before .before .before in
     let a = s .args in
-    let i = c .before .before .loop in
+    let i = c .before .before .before .loop in
+    let first-place = c .before .before .before .before .place-of in
     let f = place (now (a .table)) (seen (a .right) (now (a .depths))) in
     let g = place (now (a .table)) (splice (seen (a .right) (now (a .depths))) (a .first) (seen (a .right) (now (a .candidate)))) in
-    let top : c .before .before .before .place-of .result ≡ f (a .first - 1) = c .before .before .before .place-of .ensures ∙ ap f (c .before .before .before .before .column-before .ensures) in
+    let top : first-place .result ≡ f (a .first - 1) = first-place .ensures ∙ ap f (c .before .before .before .before .before .column-before .ensures) in
     c .first-at .ensures
-    ∙ ap (λ (x : ℕ). firstAt x) (i .inv .1 ∙ least-all (λ x. min (f x) (g x)) (c .before .before .before .place-of .result) (a .first) (length (now (a .candidate))) (i .n) (c .before .loop-test .left)
+    ∙ ap (λ (x : ℕ). firstAt x) (c .before .quarter-before .ensures)
+    ∙ ap (λ (x : ℕ). firstAt (x - 1)) (i .inv .1 ∙ least-all (λ x. min (f x) (g x)) (first-place .result) (a .first) (length (now (a .candidate))) (i .n) (c .before .before .loop-test .left)
     ∙ ap (λ (x : ℕ). least (λ y. min (f y) (g y)) x (a .first) (length (now (a .candidate)))) top)
     ∙ start-is f g (a .first) (length (now (a .candidate))) (s .pre .1 .1 .0)
 
@@ -111,5 +112,6 @@ span-start-spec =
     (λ c κs. search needs)
     (λ c. search needs)
     loop-again
+    (λ c κs. search needs)
     (λ c κs. search needs)
     returns)

@@ -1,15 +1,16 @@
 -- `trial::trial_into` meets its contract: what is drawn into the strip is what is measured (proofs/Rows, measured-summed).
 use Prim.Native.Nat.{ℕ, _+_, _-_, _≤_}
-use mathlib.Core.Path.{_≡_, refl, sym, _∙_}
+use mathlib.Core.Path.{_≡_, sym, _∙_}
 use native.Mathlib.Omega.{arith}
 use denote.Ref.{now}
 use lib.ListN.{length}
 use Rattle.model.proofs.Views.{length-seen}
 use Rattle.planes.specs.Parts.{splice}
 use Rattle.planes.proofs.Splices.{length-splice}
+use Rattle.pixel.specs.Pairs.{edgeRight}
 use Rattle.row.specs.Drawing.{pixelBelow, lineWith}
 use Rattle.row.proofs.Pass.{ahead-within}
-use Rattle.trial.specs.Trial.{around, Stretch}
+use Rattle.trial.specs.Trial.{around}
 use Rattle.trial.proofs.Rows.{measured-summed}
 use borrow.Author.Needs.{needs}
 use Rattle.trial.proofs.trial_into.Statement.{statement}
@@ -64,7 +65,7 @@ returns c =
     record {
       summed = rw wide
           (measured-summed o (length (now (a .depths))) (a .start) n (c .before .before .before .before .part-start .result) inside (rw e at (c .before .before .before .before .part-start .ensures .0))
-          (pixelBelow l (a .from .column + 1)) _ _ _ (k .0) (k .1 .0 ∙ p .1 .1 .1 .1 .0) (k .1 .1 .0 ∙ p .1 .1 .1 .1 .1) (drawn .painted) (rw (k .0) at (c .measure .ensures)));
+          (pixelBelow l (a .from .column + 1) (edgeRight (a .from))) _ _ _ (k .0) (k .1 .0 ∙ p .1 .1 .1 .1 .0) (k .1 .1 .0 ∙ p .1 .1 .1 .1 .1) (drawn .painted) (rw (k .0) at (c .measure .ensures)));
       ahead = drawn .ahead;
       passed = drawn .passed;
     }

@@ -1,5 +1,6 @@
-//! What both comparison programs hold and share: the planes of a session, the pixel of a pair of columns with its filter, and
-//! the combined sample. Plain safe Rust, which trusts its caller: no call tests lengths or tables.
+//! What both comparison programs hold and share: the planes of a session, the pixel of a pair of columns with its filter,
+//! where a near edge shows, and the combined sample. Plain safe Rust, which trusts its caller: no call tests lengths or
+//! tables.
 
 use crate::scene::Scene;
 use luphwezane::{Block, Pictures, Planes, PlanesMut, Settings};
@@ -125,6 +126,13 @@ impl Pair {
         let far = usize::from(t > 1);
         Pixel { sample: self.window[3 + far], hole: t > 1, front: self.depths[far] }
     }
+}
+
+/// Whether the last position before the limit of c + 1 shows the greatest column placed at that limit (card 7), where c owns
+/// the position: the limit is one quarter further, and `next`, the place of c + 1, is above it.
+#[inline(always)]
+pub fn near_edge(limit: i32, next: i32) -> bool {
+    limit & 3 == 1 && next > limit
 }
 
 /// The samples of columns c − 3 to c + 4 as the view reads the row, ends repeated, of a column c at entry `at`. The column's

@@ -1,7 +1,7 @@
 //! A program that redraws the block's rows completely for every trial. It keeps each row's error, so that a trial draws
 //! one view's row, combines it with the other view's and adds up.
 
-use crate::held::{combine, position, seen, square, window, Held, Pair, Pixel};
+use crate::held::{combine, near_edge, position, seen, square, window, Held, Pair, Pixel};
 use crate::scene::Scene;
 use luphwezane::{Block, Settings};
 
@@ -115,17 +115,15 @@ impl Redraw {
     }
 }
 
-/// Draws a whole row from the right, column by column.
+/// Draws a whole row from the right, column by column. `front` is the entry of the greatest column placed at the limit.
 fn draw_row<const RIGHT: bool>(table: &[u16; 256], texture: &[u8], row: &mut Row) {
     let w = texture.len();
-    let (mut top, mut limit) = (w, i32::MAX);
+    let (mut top, mut limit, mut front) = (w, i32::MAX, 0);
     let mut next = None;
     for c in (0..w).rev() {
         let at = seen::<RIGHT>(w, c);
         let depth = row.depths[at];
         let place = 4 * c as i32 - i32::from(table[usize::from(depth)]);
-        limit = limit.min(place);
-        row.limits[at] = limit as i16;
         let from = position(place);
         if from < top {
             let (far_depth, far_place) = next.unwrap_or((depth, 0));
@@ -134,8 +132,15 @@ fn draw_row<const RIGHT: bool>(table: &[u16; 256], texture: &[u8], row: &mut Row
             for p in from..top {
                 row.pixels[seen::<RIGHT>(w, p)] = pair.pixel(4 * p as i32 - place);
             }
+            if near_edge(limit, far_place) {
+                row.pixels[seen::<RIGHT>(w, top - 1)] = Pixel { sample: texture[front], hole: false, front: row.depths[front] };
+            }
             top = from;
         }
+        if place < limit {
+            (limit, front) = (place, at);
+        }
+        row.limits[at] = limit as i16;
         next = Some((depth, place));
     }
 }

@@ -1,7 +1,7 @@
 //! A span renderer written for speed: the library's own way of working, by hand. A trial goes over the span of each of the
 //! block's rows once, from the right, and adds up old and new errors without storing a pixel.
 
-use crate::held::{combine, position, seen, square, window, Held, Pair, Pixel};
+use crate::held::{combine, near_edge, position, seen, square, window, Held, Pair, Pixel};
 use crate::scene::Scene;
 use luphwezane::{Block, Settings};
 
@@ -26,6 +26,31 @@ struct Drawn {
     at: usize,
     own: Pixel,
     sample: u8,
+}
+
+/// What is beside the drawn view in a row: the other view, the combined picture as it is held, and the reference.
+struct Beside<'a> {
+    share: u32,
+    tolerance: u8,
+    samples: &'a [u8],
+    fronts: &'a [u8],
+    marks: &'a [u8],
+    combined: &'a [u8],
+    reference: &'a [u8],
+}
+
+impl Beside<'_> {
+    /// Combines what the view shows at a position and adds to the old and new errors.
+    #[inline(always)]
+    fn measured<const RIGHT: bool>(&self, p: usize, own: Pixel, old: &mut u32, new: &mut u32) -> Drawn {
+        let at = seen::<RIGHT>(self.reference.len(), p);
+        let far = Pixel { sample: self.samples[at], hole: self.marks[at / 8] >> (at % 8) & 1 == 1, front: self.fronts[at] };
+        let (left, right) = if RIGHT { (far, own) } else { (own, far) };
+        let sample = combine(self.share, self.tolerance, left, right);
+        *old += square(self.combined[at], self.reference[at]);
+        *new += square(sample, self.reference[at]);
+        Drawn { at, own, sample }
+    }
 }
 
 impl Span {
@@ -117,10 +142,22 @@ impl Span {
         let (w, bytes) = (held.w, held.mark_bytes());
         let (base, packed) = (edit.y * w, edit.y * bytes);
         let (table, texture, depths) = (&held.tables[view], &held.textures[view][base..base + w], &held.depths[view][base..base + w]);
-        let (samples, fronts) = (&held.samples[other][base..base + w], &held.fronts[other][base..base + w]);
-        let (marks, combined) = (&held.marks[other][packed..packed + bytes], &held.combined[base..base + w]);
-        let (reference, limits) = (&held.reference[base..base + w], &held.limits[view][base..base + w]);
+        let limits = &held.limits[view][base..base + w];
+        let beside = Beside {
+            share: held.share,
+            tolerance: held.tolerance,
+            samples: &held.samples[other][base..base + w],
+            fronts: &held.fronts[other][base..base + w],
+            marks: &held.marks[other][packed..packed + bytes],
+            combined: &held.combined[base..base + w],
+            reference: &held.reference[base..base + w],
+        };
         let place = |c: usize, depth: u8| 4 * c as i32 - i32::from(table[usize::from(depth)]);
+        let plain = |c: usize| {
+            let at = seen::<RIGHT>(w, c);
+            let front = if (edit.first..edit.end).contains(&c) { edit.part[at - edit.column] } else { depths[at] };
+            Pixel { sample: texture[at], hole: false, front }
+        };
 
         let mut low = i32::MAX;
         if edit.first > 0 {
@@ -130,37 +167,40 @@ impl Span {
             let at = seen::<RIGHT>(w, c);
             low = low.min(place(c, depths[at])).min(place(c, edit.part[at - edit.column]));
         }
-        let start = position(low);
-        let (mut top, mut next) = (w, None);
+        let start = position(low - 1);
+        let (mut top, mut limit, mut next) = (w, i32::MAX, None);
         if edit.end < w {
             let at = seen::<RIGHT>(w, edit.end);
-            top = position(i32::from(limits[at]));
+            limit = i32::from(limits[at]);
+            top = position(limit);
             next = Some((depths[at], place(edit.end, depths[at])));
         }
 
+        // `front` is the greatest column placed at the limit, w where it lies right of the block.
         let (mut old, mut new) = (0, 0);
-        let mut c = edit.end;
+        let (mut c, mut front) = (edit.end, w);
         while c > 0 && top > start {
             c -= 1;
             let at = seen::<RIGHT>(w, c);
             let depth = if c >= edit.first { edit.part[at - edit.column] } else { depths[at] };
             let here = place(c, depth);
-            let from = position(here).max(start);
-            if from < top {
-                let (far_depth, far_place) = next.unwrap_or((depth, 0));
-                let window = window::<RIGHT>(texture, at);
-                let pair = Pair { window, depths: [depth, far_depth], gap: far_place - here, last: next.is_none() };
-                for p in from..top {
-                    let at = seen::<RIGHT>(w, p);
-                    let own = pair.pixel(4 * p as i32 - here);
-                    let far = Pixel { sample: samples[at], hole: marks[at / 8] >> (at % 8) & 1 == 1, front: fronts[at] };
-                    let (left, right) = if RIGHT { (far, own) } else { (own, far) };
-                    let sample = combine(held.share, held.tolerance, left, right);
-                    old += square(combined[at], reference[at]);
-                    new += square(sample, reference[at]);
-                    keep(Drawn { at, own, sample });
+            if here < limit {
+                let from = position(here).max(start);
+                if from < top {
+                    let (far_depth, far_place) = next.unwrap_or((depth, 0));
+                    let window = window::<RIGHT>(texture, at);
+                    let pair = Pair { window, depths: [depth, far_depth], gap: far_place - here, last: next.is_none() };
+                    if near_edge(limit, far_place) {
+                        top -= 1;
+                        let near = if front < w { front } else { front_column::<RIGHT>(limits, edit.end) };
+                        keep(beside.measured::<RIGHT>(top, plain(near), &mut old, &mut new));
+                    }
+                    for p in from..top {
+                        keep(beside.measured::<RIGHT>(p, pair.pixel(4 * p as i32 - here), &mut old, &mut new));
+                    }
+                    top = from;
                 }
-                top = from;
+                (limit, front) = (here, c);
             }
             next = Some((depth, here));
         }
@@ -206,29 +246,57 @@ impl Span {
         let (texture, depths) = (&held.textures[view][row.clone()], &held.depths[view][row.clone()]);
         let (samples, fronts) = (&mut held.samples[view][row.clone()], &mut held.fronts[view][row.clone()]);
         let (limits, marks) = (&mut held.limits[view][row], &mut held.marks[view][packed]);
-        let (mut top, mut limit, mut next) = (w, i32::MAX, None);
+        let (mut top, mut limit, mut front, mut next) = (w, i32::MAX, 0, None);
         for c in (0..w).rev() {
             let at = seen::<RIGHT>(w, c);
             let depth = depths[at];
             let place = 4 * c as i32 - i32::from(held.tables[view][usize::from(depth)]);
-            limit = limit.min(place);
-            limits[at] = limit as i16;
-            let from = position(place);
-            if from < top {
-                let (far_depth, far_place) = next.unwrap_or((depth, 0));
-                let window = window::<RIGHT>(texture, at);
-                let pair = Pair { window, depths: [depth, far_depth], gap: far_place - place, last: next.is_none() };
-                for p in from..top {
-                    let (at, pixel) = (seen::<RIGHT>(w, p), pair.pixel(4 * p as i32 - place));
-                    samples[at] = pixel.sample;
-                    fronts[at] = pixel.front;
-                    put_mark(&mut marks[at / 8], at % 8, pixel.hole);
+            if place < limit {
+                let from = position(place);
+                if from < top {
+                    let (far_depth, far_place) = next.unwrap_or((depth, 0));
+                    let window = window::<RIGHT>(texture, at);
+                    let pair = Pair { window, depths: [depth, far_depth], gap: far_place - place, last: next.is_none() };
+                    if near_edge(limit, far_place) {
+                        top -= 1;
+                        let at = seen::<RIGHT>(w, top);
+                        samples[at] = texture[front];
+                        fronts[at] = depths[front];
+                        put_mark(&mut marks[at / 8], at % 8, false);
+                    }
+                    for p in from..top {
+                        let (at, pixel) = (seen::<RIGHT>(w, p), pair.pixel(4 * p as i32 - place));
+                        samples[at] = pixel.sample;
+                        fronts[at] = pixel.front;
+                        put_mark(&mut marks[at / 8], at % 8, pixel.hole);
+                    }
+                    top = from;
                 }
-                top = from;
+                (limit, front) = (place, at);
             }
+            limits[at] = limit as i16;
             next = Some((depth, place));
         }
     }
+}
+
+/// The greatest column placed at the held limit of column `end`: limits never fall with the column, and it is the last that
+/// has this one. No disparity brings a column there that is 256 columns further right.
+#[cold]
+#[inline(never)]
+fn front_column<const RIGHT: bool>(limits: &[i16], end: usize) -> usize {
+    let w = limits.len();
+    let limit = limits[seen::<RIGHT>(w, end)];
+    let (mut last, mut above) = (end, w.min(end + 256));
+    while above - last > 1 {
+        let middle = (last + above) / 2;
+        if limits[seen::<RIGHT>(w, middle)] == limit {
+            last = middle;
+        } else {
+            above = middle;
+        }
+    }
+    last
 }
 
 #[inline(always)]
