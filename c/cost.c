@@ -10,7 +10,8 @@
 enum { W = 64, H = 32, AREA = W * H, MARKS = (W + 7) / 8 * H, GETS = 10000 };
 
 static luph_settings settings;
-static uint8_t texture[2][AREA], reference[AREA], depth[2][AREA], sample[2][AREA], front[2][AREA], marks[2][MARKS], combined[AREA];
+static uint16_t texture[2][AREA], reference[AREA], sample[2][AREA], combined[AREA];
+static uint8_t depth[2][AREA], front[2][AREA], marks[2][MARKS];
 static int16_t limit[2][AREA];
 
 /* A GET by a caller whose compiler knows nothing of what is passed: it is called through a pointer that may have changed. */
@@ -33,18 +34,18 @@ int main(int count, char **words) {
     for (int i = 0; i < 256; i++) settings.left[i] = settings.right[i] = (uint16_t)(i / 4);
     for (int v = 0; v < 2; v++) {
         for (int i = 0; i < AREA; i++) {
-            texture[v][i] = (uint8_t)(7 * i + v);
+            texture[v][i] = (uint16_t)((7 * i + v) % 1024);
             depth[v][i] = (uint8_t)(i / 8 % 3 * 8);
         }
-        p.texture[v] = (luph_in){texture[v], AREA};
+        p.texture[v] = (luph_picture){texture[v], AREA};
         q.depth[v] = (luph_out){depth[v], AREA};
-        q.sample[v] = (luph_out){sample[v], AREA};
+        q.sample[v] = (luph_samples){sample[v], AREA};
         q.front[v] = (luph_out){front[v], AREA};
         q.marks[v] = (luph_out){marks[v], MARKS};
         q.limit[v] = (luph_limits){limit[v], AREA};
     }
-    p.reference = (luph_in){reference, AREA};
-    q.combined = (luph_out){combined, AREA};
+    p.reference = (luph_picture){reference, AREA};
+    q.combined = (luph_samples){combined, AREA};
     if (luph_open(&settings, &p, &q) != LUPH_ACCEPTED) return 1;
 
     const uint8_t depths[2] = {9, 9};

@@ -1,6 +1,6 @@
 /*
- * The small session of document 01 (cases k, l and m), reports, refused calls and drawn rows (case g and card 7's), from C.
- * Its output is compared with session.out. It compiles as C99 and as C++.
+ * The small session of document 01 (cases k, l and m), reports, refused calls, drawn rows (case g and card 7's) and samples of
+ * ten bits and above, from C. Its output is compared with session.out. It compiles as C99 and as C++.
  */
 #include <stdio.h>
 #include <string.h>
@@ -9,8 +9,10 @@
 
 #define W 4
 
-static const uint8_t texture[W] = {10, 20, 30, 40};
-static uint8_t depth[2][W], sample[2][W], front[2][W], marks[2][1], combined[W];
+static const uint16_t texture[W] = {10, 20, 30, 40};
+static const uint8_t depths[W] = {10, 20, 30, 40};
+static uint16_t sample[2][W], combined[W];
+static uint8_t depth[2][W], front[2][W], marks[2][1];
 static int16_t limit[2][W];
 
 static luph_in in(const uint8_t *data, size_t len) {
@@ -27,22 +29,41 @@ static luph_out out(uint8_t *data, size_t len) {
     return x;
 }
 
+static luph_picture picture(const uint16_t *data, size_t len) {
+    luph_picture x;
+    x.data = data;
+    x.len = len;
+    return x;
+}
+
+static luph_samples samples(uint16_t *data, size_t len) {
+    luph_samples x;
+    x.data = data;
+    x.len = len;
+    return x;
+}
+
 static luph_planes planes(void) {
     luph_planes q;
     for (int v = 0; v < 2; v++) {
         q.depth[v] = out(depth[v], W);
-        q.sample[v] = out(sample[v], W);
+        q.sample[v] = samples(sample[v], W);
         q.front[v] = out(front[v], W);
         q.marks[v] = out(marks[v], 1);
         q.limit[v].data = limit[v];
         q.limit[v].len = W;
     }
-    q.combined = out(combined, W);
+    q.combined = samples(combined, W);
     return q;
 }
 
-static void print_row(const char *name, const uint8_t *row) {
+static void print_samples(const char *name, const uint16_t *row) {
     printf("%s %d %d %d %d\n", name, row[0], row[1], row[2], row[3]);
+}
+
+static void print_open(luph_settings *s, const luph_pictures *p, const luph_planes *q) {
+    const int number = luph_open(s, p, q);
+    printf("open: %d, total %lu\n", number, (unsigned long)s->total);
 }
 
 static void print_check(const luph_settings *s, const luph_pictures *p, const luph_planes *q) {
@@ -74,12 +95,11 @@ static void print_set(luph_settings *s, const luph_pictures *p, const luph_plane
 
 static void session(luph_settings *s, const luph_pictures *p, const luph_planes *q) {
     s->total = 77; /* ignored */
-    const int number = luph_open(s, p, q);
-    printf("open: %d, total %lu\n", number, (unsigned long)s->total);
+    print_open(s, p, q);
     print_trial(s, p, q, 2, 4); /* case k: 136 */
     print_trial(s, p, q, 2, 5); /* case l: 100 */
     print_set(s, p, q, 2, 4);
-    print_row("combined", combined);
+    print_samples("combined", combined);
     print_check(s, p, q);
     print_trial(s, p, q, 2, 5); /* case m: -36 */
     print_set(s, p, q, 2, 0);   /* and -136, back at total 0 */
@@ -109,12 +129,12 @@ static void refusals(luph_settings *s, const luph_pictures *p, const luph_planes
     int number;
     print_trial(s, p, q, 4, 4); /* 5: past the last column */
     print_set(s, p, q, 4, 4);
-    number = luph_get(s, p, q, 2, whole, in(texture, W), &change);
+    number = luph_get(s, p, q, 2, whole, in(depths, W), &change);
     printf("get of view 2: %d, change %ld\n", number, (long)change);
     number = luph_set(s, p, q, 1, whole, in(NULL, 0), &change);
     printf("set of no candidate: %d, change %ld\n", number, (long)change);
-    none.combined = out(NULL, 0);
-    number = luph_get(s, p, &none, 0, whole, in(texture, W), &change);
+    none.combined = samples(NULL, 0);
+    number = luph_get(s, p, &none, 0, whole, in(depths, W), &change);
     printf("get without a combined picture: %d, change %ld\n", number, (long)change);
     other.w = 4097;
     other.total = 77;
@@ -155,8 +175,8 @@ static void nulls(luph_settings *s, const luph_pictures *p, const luph_planes *q
         int64_t change;
         drop(&some, &held, slice);
         refused[0] += luph_open(s, &some, &held) == LUPH_REFUSED_PLANE;
-        refused[1] += luph_get(s, &some, &held, 0, whole, in(texture, W), &change) == LUPH_REFUSED_PLANE;
-        refused[2] += luph_set(s, &some, &held, 0, whole, in(texture, W), &change) == LUPH_REFUSED_PLANE;
+        refused[1] += luph_get(s, &some, &held, 0, whole, in(depths, W), &change) == LUPH_REFUSED_PLANE;
+        refused[2] += luph_set(s, &some, &held, 0, whole, in(depths, W), &change) == LUPH_REFUSED_PLANE;
         refused[3] += luph_check(s, &some, &held, &r) == LUPH_REFUSED_PLANE;
     }
     printf("one of 14 slices NULL, refused: open %d, get %d, set %d, check %d\n", refused[0], refused[1], refused[2], refused[3]);
@@ -164,19 +184,48 @@ static void nulls(luph_settings *s, const luph_pictures *p, const luph_planes *q
 }
 
 /* One row of the left view. */
-static void print_drawn(const luph_settings *s, const uint8_t *depths) {
-    uint8_t samples[W], fronts[W], packed[1];
-    const int number = luph_render(s, 0, in(texture, W), in(depths, W), out(samples, W), out(packed, 1), out(fronts, W));
+static void print_drawn(const luph_settings *s, const uint16_t *row, const uint8_t *d) {
+    uint16_t drawn[W];
+    uint8_t fronts[W], packed[1];
+    const int number = luph_render(s, 0, picture(row, W), in(d, W), samples(drawn, W), out(packed, 1), out(fronts, W));
     printf("render: %d, marks %d\n", number, packed[0]);
-    print_row("samples", samples);
-    print_row("fronts", fronts);
+    print_samples("samples", drawn);
+    printf("fronts %d %d %d %d\n", fronts[0], fronts[1], fronts[2], fronts[3]);
 }
 
 /* Case g, a torn pair, whose far side fills the gap; and card 7's row, where position 0 shows the near edge of column 2. */
 static void rows(const luph_settings *s) {
     static const uint8_t torn[W] = {0, 0, 5, 0}, edge[W] = {0, 0, 7, 0};
-    print_drawn(s, torn);
-    print_drawn(s, edge);
+    print_drawn(s, texture, torn);
+    print_drawn(s, texture, edge);
+}
+
+/*
+ * Samples of ten bits, which the filter takes below 0 and past 1,023; and higher entries: OPEN refuses them with 21, the other
+ * calls read them as 1,023, CHECK names the first held sample that is one, and SET leaves it outside the span.
+ */
+static void ten_bits(luph_settings *s, const luph_planes *q) {
+    static const uint8_t halves[W] = {2, 2, 2, 2};
+    static const uint16_t high[W] = {0, 0, 65535, 1024};
+    uint16_t row[W] = {0, 0, 1023, 1023};
+    luph_pictures p;
+    p.texture[0] = p.texture[1] = p.reference = picture(row, W);
+    memset(depth, 0, sizeof depth);
+    print_drawn(s, row, halves);
+    print_open(s, &p, q);
+    print_trial(s, &p, q, 1, 2);
+    print_set(s, &p, q, 1, 2);
+    print_samples("combined", combined);
+    memcpy(row, high, sizeof row);
+    print_drawn(s, row, halves);
+    print_open(s, &p, q);
+    print_check(s, &p, q);
+    print_trial(s, &p, q, 1, 0);
+    sample[1][2] = combined[3] = 2000;
+    print_check(s, &p, q);
+    print_trial(s, &p, q, 1, 0);
+    print_set(s, &p, q, 1, 0);
+    print_samples("combined", combined);
 }
 
 int main(void) {
@@ -188,11 +237,12 @@ int main(void) {
     s.h = 1;
     s.tolerance = 255;
     for (int d = 0; d < 256; d++) s.left[d] = s.right[d] = (uint16_t)d;
-    p.texture[0] = p.texture[1] = p.reference = in(texture, W);
+    p.texture[0] = p.texture[1] = p.reference = picture(texture, W);
     session(&s, &p, &q);
     reports(&s, &p, &q);
     refusals(&s, &p, &q);
     nulls(&s, &p, &q);
     rows(&s);
+    ten_bits(&s, &q);
     return 0;
 }

@@ -18,6 +18,11 @@
  * Marks are packed: the mark of column x of a row is bit x % 8 of byte x / 8 of that row; bits past the last
  * column are zero.
  *
+ * Samples have ten bits, 0 to 1,023, in entries of 16: the textures, the reference, the drawn samples and the
+ * combined picture. luph_open refuses a texture or reference with a higher entry. The other calls read a higher
+ * entry of a texture or reference as 1,023, and luph_get and luph_set read a higher drawn or combined sample so
+ * too; luph_check compares drawn and combined samples as they are, so that a higher one is a difference.
+ *
  * Every call answers 0 (LUPH_ACCEPTED) or the number of the first refusal that applies, in the order given with
  * the call. A refused call writes nothing: no plane, no settings, no answer.
  *
@@ -44,7 +49,8 @@ enum {
     LUPH_REFUSED_BOUNDS = 5,    /* a block of zero width or height, or reaching past an edge */
     LUPH_REFUSED_VIEW = 6,      /* a view neither 0 nor 1 */
     LUPH_REFUSED_CANDIDATE = 7, /* a candidate whose length is not width * height */
-    LUPH_REFUSED_TOTAL = 8      /* total plus change below 0 or above 65,025 * w * h; never in a session that is kept as above */
+    LUPH_REFUSED_TOTAL = 8,     /* total plus change below 0 or above 1,046,529 * w * h; never in a session that is kept as above */
+    LUPH_REFUSED_SAMPLE = 21    /* a texture or reference entry above 1,023 */
 };
 
 /* The settings of a session. */
@@ -58,17 +64,29 @@ typedef struct luph_settings {
     uint64_t total;      /* the sum of squared errors of the combined picture; luph_open and luph_set write it */
 } luph_settings;
 
-/* 8-bit entries that a call only reads. */
+/* Bytes that a call only reads: depths, candidates and marks. */
 typedef struct luph_in {
     const uint8_t *data; /* the first entry */
     size_t len;          /* the number of entries */
 } luph_in;
 
-/* 8-bit entries that a call may write. */
+/* Bytes that a call may write: depths, fronts and marks. */
 typedef struct luph_out {
     uint8_t *data; /* the first entry */
     size_t len;    /* the number of entries */
 } luph_out;
+
+/* Samples, 0 to 1,023, that a call only reads. */
+typedef struct luph_picture {
+    const uint16_t *data; /* the first entry */
+    size_t len;           /* the number of entries */
+} luph_picture;
+
+/* Samples, 0 to 1,023, that a call may write. */
+typedef struct luph_samples {
+    uint16_t *data; /* the first entry */
+    size_t len;     /* the number of entries */
+} luph_samples;
 
 /* Limits, which are signed, in quarter samples. */
 typedef struct luph_limits {
@@ -78,18 +96,18 @@ typedef struct luph_limits {
 
 /* The pictures of a session, which no call writes. View 0 is left, view 1 right. */
 typedef struct luph_pictures {
-    luph_in texture[2]; /* each view's texture */
-    luph_in reference;  /* what the combined picture is measured against */
+    luph_picture texture[2]; /* each view's texture */
+    luph_picture reference;  /* what the combined picture is measured against */
 } luph_pictures;
 
 /* The planes of a session. Depths are given to luph_open and written by luph_set; the others are held. */
 typedef struct luph_planes {
-    luph_out depth[2];    /* each view's depths, larger is nearer */
-    luph_out sample[2];   /* each view's drawn samples */
-    luph_out front[2];    /* the depth that is seen at each drawn position */
-    luph_out marks[2];    /* each view's hole marks, packed; 1 is a hole */
-    luph_out combined;    /* the picture combined from both views */
-    luph_limits limit[2]; /* each view's limits */
+    luph_out depth[2];      /* each view's depths, larger is nearer */
+    luph_samples sample[2]; /* each view's drawn samples */
+    luph_out front[2];      /* the depth that is seen at each drawn position */
+    luph_out marks[2];      /* each view's hole marks, packed; 1 is a hole */
+    luph_samples combined;  /* the picture combined from both views */
+    luph_limits limit[2];   /* each view's limits */
 } luph_planes;
 
 /* A block of a depth plane. */
@@ -115,35 +133,43 @@ extern "C" {
 
 #define LUPH_RAW_IN(name) const uint8_t *name, size_t name##_len
 #define LUPH_RAW_OUT(name) uint8_t *name, size_t name##_len
+#define LUPH_RAW_IN_SAMPLES(name) const uint16_t *name, size_t name##_len
+#define LUPH_RAW_OUT_SAMPLES(name) uint16_t *name, size_t name##_len
 #define LUPH_RAW_IN_LIMITS(name) const int16_t *name, size_t name##_len
 #define LUPH_RAW_OUT_LIMITS(name) int16_t *name, size_t name##_len
-#define LUPH_RAW_PICTURES LUPH_RAW_IN(left_texture), LUPH_RAW_IN(right_texture), LUPH_RAW_IN(reference)
+#define LUPH_RAW_PICTURES LUPH_RAW_IN_SAMPLES(left_texture), LUPH_RAW_IN_SAMPLES(right_texture), LUPH_RAW_IN_SAMPLES(reference)
 #define LUPH_RAW_DEPTHS(bytes) bytes(left_depths), bytes(right_depths)
-#define LUPH_RAW_HELD(bytes, limits)                                                              \
-    bytes(left_samples), bytes(left_fronts), limits(left_limits), bytes(left_marks),              \
-    bytes(right_samples), bytes(right_fronts), limits(right_limits), bytes(right_marks), bytes(combined)
+#define LUPH_RAW_HELD(bytes, samples, limits)                                            \
+    samples(left_samples), bytes(left_fronts), limits(left_limits), bytes(left_marks),   \
+    samples(right_samples), bytes(right_fronts), limits(right_limits), bytes(right_marks), samples(combined)
+#define LUPH_RAW_HELD_IN LUPH_RAW_HELD(LUPH_RAW_IN, LUPH_RAW_IN_SAMPLES, LUPH_RAW_IN_LIMITS)
+#define LUPH_RAW_HELD_OUT LUPH_RAW_HELD(LUPH_RAW_OUT, LUPH_RAW_OUT_SAMPLES, LUPH_RAW_OUT_LIMITS)
 
-uint32_t luph_raw_render(luph_settings settings, uint32_t view, LUPH_RAW_IN(texture), LUPH_RAW_IN(depths),
-    LUPH_RAW_OUT(samples), LUPH_RAW_OUT(marks), LUPH_RAW_OUT(fronts));
+uint32_t luph_raw_render(luph_settings settings, uint32_t view, LUPH_RAW_IN_SAMPLES(texture), LUPH_RAW_IN(depths),
+    LUPH_RAW_OUT_SAMPLES(samples), LUPH_RAW_OUT(marks), LUPH_RAW_OUT(fronts));
 uint32_t luph_raw_open(luph_settings settings, LUPH_RAW_PICTURES, LUPH_RAW_DEPTHS(LUPH_RAW_IN),
-    LUPH_RAW_HELD(LUPH_RAW_OUT, LUPH_RAW_OUT_LIMITS), uint64_t *total);
+    LUPH_RAW_HELD_OUT, uint64_t *total);
 uint32_t luph_raw_get(uint32_t w, uint32_t h, const uint16_t *left, const uint16_t *right, uint8_t share, uint8_t tolerance,
-    uint64_t total, LUPH_RAW_PICTURES, LUPH_RAW_DEPTHS(LUPH_RAW_IN), LUPH_RAW_HELD(LUPH_RAW_IN, LUPH_RAW_IN_LIMITS),
+    uint64_t total, LUPH_RAW_PICTURES, LUPH_RAW_DEPTHS(LUPH_RAW_IN), LUPH_RAW_HELD_IN,
     uint32_t view, luph_block block, LUPH_RAW_IN(candidate), int64_t *change);
 uint32_t luph_raw_set(luph_settings settings, LUPH_RAW_PICTURES, LUPH_RAW_DEPTHS(LUPH_RAW_OUT),
-    LUPH_RAW_HELD(LUPH_RAW_OUT, LUPH_RAW_OUT_LIMITS), uint32_t view, luph_block block, LUPH_RAW_IN(candidate), int64_t *change,
+    LUPH_RAW_HELD_OUT, uint32_t view, luph_block block, LUPH_RAW_IN(candidate), int64_t *change,
     uint64_t *total);
 uint32_t luph_raw_check(luph_settings settings, LUPH_RAW_PICTURES, LUPH_RAW_DEPTHS(LUPH_RAW_IN),
-    LUPH_RAW_HELD(LUPH_RAW_IN, LUPH_RAW_IN_LIMITS), uint32_t *kind, uint32_t *row, uint32_t *column);
+    LUPH_RAW_HELD_IN, uint32_t *kind, uint32_t *row, uint32_t *column);
 uint32_t luph_raw_holes(luph_settings settings, uint32_t view, LUPH_RAW_IN(left_marks), LUPH_RAW_IN(right_marks), uint64_t *count);
 
 #undef LUPH_RAW_IN
 #undef LUPH_RAW_OUT
+#undef LUPH_RAW_IN_SAMPLES
+#undef LUPH_RAW_OUT_SAMPLES
 #undef LUPH_RAW_IN_LIMITS
 #undef LUPH_RAW_OUT_LIMITS
 #undef LUPH_RAW_PICTURES
 #undef LUPH_RAW_DEPTHS
 #undef LUPH_RAW_HELD
+#undef LUPH_RAW_HELD_IN
+#undef LUPH_RAW_HELD_OUT
 
 #ifdef __cplusplus
 }
@@ -161,6 +187,24 @@ static inline luph_in luph_private_in(luph_in x) {
 
 static inline luph_out luph_private_out(luph_out x) {
     static uint8_t none = 0;
+    if (x.data == NULL) {
+        x.data = &none;
+        x.len = 0;
+    }
+    return x;
+}
+
+static inline luph_picture luph_private_picture(luph_picture x) {
+    static const uint16_t none = 0;
+    if (x.data == NULL) {
+        x.data = &none;
+        x.len = 0;
+    }
+    return x;
+}
+
+static inline luph_samples luph_private_samples(luph_samples x) {
+    static uint16_t none = 0;
     if (x.data == NULL) {
         x.data = &none;
         x.len = 0;
@@ -201,12 +245,12 @@ LUPH_PRIVATE_APART int luph_private_has_null(const luph_pictures *p, const luph_
 }
 
 LUPH_PRIVATE_APART void luph_private_fill(luph_private_copy *x, const luph_pictures *p, const luph_planes *q) {
-    x->pictures.reference = luph_private_in(p->reference);
-    x->planes.combined = luph_private_out(q->combined);
+    x->pictures.reference = luph_private_picture(p->reference);
+    x->planes.combined = luph_private_samples(q->combined);
     for (int v = 0; v < 2; v++) {
-        x->pictures.texture[v] = luph_private_in(p->texture[v]);
+        x->pictures.texture[v] = luph_private_picture(p->texture[v]);
         x->planes.depth[v] = luph_private_out(q->depth[v]);
-        x->planes.sample[v] = luph_private_out(q->sample[v]);
+        x->planes.sample[v] = luph_private_samples(q->sample[v]);
         x->planes.front[v] = luph_private_out(q->front[v]);
         x->planes.marks[v] = luph_private_out(q->marks[v]);
         x->planes.limit[v] = luph_private_limits(q->limit[v]);
@@ -226,16 +270,17 @@ LUPH_PRIVATE_APART void luph_private_fill(luph_private_copy *x, const luph_pictu
 
 /*
  * RENDER: draws one row of one view, with that view's table, into samples, packed marks and front depths. A sample
- * between two columns of one surface is interpolated by the H.265 luma filters, in quarters; the edge of a near
- * object that hides columns begins at the rounded place, with the object's sample and depth and no mark. texture,
- * depth, sample and front have s->w entries, marks (s->w + 7) / 8; s->h, share, tolerance and total are not looked
- * at. Refuses 1 (by w alone), 2, 3, then 6.
+ * between two columns of one surface is interpolated by the H.265 luma filters, in quarters, and held to 0 to
+ * 1,023; the edge of a near object that hides columns begins at the rounded place, with the object's sample and
+ * depth and no mark. A texture entry above 1,023 is read as 1,023. texture, depth, sample and front have s->w
+ * entries, marks (s->w + 7) / 8; s->h, share, tolerance and total are not looked at. Refuses 1 (by w alone), 2, 3,
+ * then 6.
  */
-static inline int luph_render(const luph_settings *s, uint32_t view, luph_in texture, luph_in depth, luph_out sample, luph_out marks,
-    luph_out front) {
-    texture = luph_private_in(texture);
+static inline int luph_render(const luph_settings *s, uint32_t view, luph_picture texture, luph_in depth, luph_samples sample,
+    luph_out marks, luph_out front) {
+    texture = luph_private_picture(texture);
     depth = luph_private_in(depth);
-    sample = luph_private_out(sample);
+    sample = luph_private_samples(sample);
     marks = luph_private_out(marks);
     front = luph_private_out(front);
     return (int)luph_raw_render(*s, view, LUPH_RAW_SLICE(texture), LUPH_RAW_SLICE(depth), LUPH_RAW_SLICE(sample), LUPH_RAW_SLICE(marks),
@@ -244,7 +289,8 @@ static inline int luph_render(const luph_settings *s, uint32_t view, luph_in tex
 
 /*
  * OPEN: draws both views from pictures and depths into the held planes and writes the total to s->total; the
- * total passed in is ignored. Depths are only read. Refuses 1, 2, 3, 4.
+ * total passed in is ignored. Depths are only read. Refuses 1, 2, 3, 4, then 21: a texture or reference entry above
+ * 1,023.
  */
 static inline int luph_open(luph_settings *s, const luph_pictures *p, const luph_planes *q) {
     luph_private_copy copy;
@@ -261,7 +307,8 @@ static inline int luph_open(luph_settings *s, const luph_pictures *p, const luph
 
 /*
  * GET: answers in *change how the total would change if the block of the view's depths were the candidate, whose
- * width * height depths come in row order. Writes no plane. Refuses 1, 2, 3, 4, 6, 5, 7, then 8.
+ * width * height depths come in row order. Reads samples above 1,023, of the pictures and of the planes, as 1,023.
+ * Writes no plane. Refuses 1, 2, 3, 4, 6, 5, 7, then 8.
  */
 static inline int luph_get(const luph_settings *s, const luph_pictures *p, const luph_planes *q, uint32_t view, luph_block b,
     luph_in candidate, int64_t *change) {
@@ -281,7 +328,7 @@ static inline int luph_get(const luph_settings *s, const luph_pictures *p, const
 
 /*
  * SET: writes the candidate into the block, brings the held planes up to date, and answers the change in *change
- * and the new total in s->total. Refuses as GET does, in that order.
+ * and the new total in s->total. Reads samples and refuses as GET does, in that order.
  */
 static inline int luph_set(luph_settings *s, const luph_pictures *p, const luph_planes *q, uint32_t view, luph_block b, luph_in candidate,
     int64_t *change) {
@@ -305,7 +352,8 @@ static inline int luph_set(luph_settings *s, const luph_pictures *p, const luph_
 /*
  * CHECK: compares every held entry with a fresh drawing of the depths and answers in *r: sound, or row and column
  * of the first difference by rows, or the total if only that differs. Bits past a row's last column count with
- * that column. Writes no plane. Refuses 1, 2, 3, 4.
+ * that column. The fresh drawing reads texture and reference entries above 1,023 as 1,023; held samples are compared
+ * as they are. Writes no plane. Refuses 1, 2, 3, 4.
  */
 static inline int luph_check(const luph_settings *s, const luph_pictures *p, const luph_planes *q, luph_report *r) {
     luph_private_copy copy;

@@ -3,7 +3,8 @@
 //! A [`Session`] holds what two cameras, left and right, show from one place between them: each view drawn from its
 //! texture and depths, the picture combined from both, and the total of its squared errors against a reference.
 //! [`Session::get`] answers how that total would change if a block of depths were replaced; [`Session::set`]
-//! replaces it. Both touch only the stretch of each row that the block can change.
+//! replaces it. Both touch only the stretch of each row that the block can change. Samples have ten bits, 0 to
+//! [`GREATEST_SAMPLE`].
 //!
 //! ```
 //! use luphwezane::{Block, Pictures, Report, Session, Settings, View};
@@ -46,7 +47,7 @@ mod types;
 pub use refusal::Refusal;
 pub use row::{render, Row};
 pub use session::Session;
-pub use types::{Block, Pictures, Planes, PlanesMut, Report, Settings, View};
+pub use types::{Block, Pictures, Planes, PlanesMut, Report, Settings, View, GREATEST_SAMPLE};
 
 /// The six calls over planes that the caller keeps, as the C header has them.
 ///

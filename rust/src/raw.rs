@@ -12,57 +12,57 @@ use crate::{Block, Pictures, Planes, PlanesMut, Refusal, Report, Settings};
 extern "C" {
     fn luph_raw_render(
         settings: Settings, view: u32,
-        texture: *const u8, texture_len: usize, depths: *const u8, depths_len: usize,
-        samples: *mut u8, samples_len: usize, marks: *mut u8, marks_len: usize, fronts: *mut u8, fronts_len: usize,
+        texture: *const u16, texture_len: usize, depths: *const u8, depths_len: usize,
+        samples: *mut u16, samples_len: usize, marks: *mut u8, marks_len: usize, fronts: *mut u8, fronts_len: usize,
     ) -> u32;
     fn luph_raw_open(
         settings: Settings,
-        left_texture: *const u8, left_texture_len: usize, right_texture: *const u8, right_texture_len: usize,
-        reference: *const u8, reference_len: usize,
+        left_texture: *const u16, left_texture_len: usize, right_texture: *const u16, right_texture_len: usize,
+        reference: *const u16, reference_len: usize,
         left_depths: *const u8, left_depths_len: usize, right_depths: *const u8, right_depths_len: usize,
-        left_samples: *mut u8, left_samples_len: usize, left_fronts: *mut u8, left_fronts_len: usize,
+        left_samples: *mut u16, left_samples_len: usize, left_fronts: *mut u8, left_fronts_len: usize,
         left_limits: *mut i16, left_limits_len: usize, left_marks: *mut u8, left_marks_len: usize,
-        right_samples: *mut u8, right_samples_len: usize, right_fronts: *mut u8, right_fronts_len: usize,
+        right_samples: *mut u16, right_samples_len: usize, right_fronts: *mut u8, right_fronts_len: usize,
         right_limits: *mut i16, right_limits_len: usize, right_marks: *mut u8, right_marks_len: usize,
-        combined: *mut u8, combined_len: usize,
+        combined: *mut u16, combined_len: usize,
         total: *mut u64,
     ) -> u32;
     fn luph_raw_get(
         w: u32, h: u32, left: *const u16, right: *const u16, share: u8, tolerance: u8, total: u64,
-        left_texture: *const u8, left_texture_len: usize, right_texture: *const u8, right_texture_len: usize,
-        reference: *const u8, reference_len: usize,
+        left_texture: *const u16, left_texture_len: usize, right_texture: *const u16, right_texture_len: usize,
+        reference: *const u16, reference_len: usize,
         left_depths: *const u8, left_depths_len: usize, right_depths: *const u8, right_depths_len: usize,
-        left_samples: *const u8, left_samples_len: usize, left_fronts: *const u8, left_fronts_len: usize,
+        left_samples: *const u16, left_samples_len: usize, left_fronts: *const u8, left_fronts_len: usize,
         left_limits: *const i16, left_limits_len: usize, left_marks: *const u8, left_marks_len: usize,
-        right_samples: *const u8, right_samples_len: usize, right_fronts: *const u8, right_fronts_len: usize,
+        right_samples: *const u16, right_samples_len: usize, right_fronts: *const u8, right_fronts_len: usize,
         right_limits: *const i16, right_limits_len: usize, right_marks: *const u8, right_marks_len: usize,
-        combined: *const u8, combined_len: usize,
+        combined: *const u16, combined_len: usize,
         view: u32, block: Block, candidate: *const u8, candidate_len: usize,
         change: *mut i64,
     ) -> u32;
     fn luph_raw_set(
         settings: Settings,
-        left_texture: *const u8, left_texture_len: usize, right_texture: *const u8, right_texture_len: usize,
-        reference: *const u8, reference_len: usize,
+        left_texture: *const u16, left_texture_len: usize, right_texture: *const u16, right_texture_len: usize,
+        reference: *const u16, reference_len: usize,
         left_depths: *mut u8, left_depths_len: usize, right_depths: *mut u8, right_depths_len: usize,
-        left_samples: *mut u8, left_samples_len: usize, left_fronts: *mut u8, left_fronts_len: usize,
+        left_samples: *mut u16, left_samples_len: usize, left_fronts: *mut u8, left_fronts_len: usize,
         left_limits: *mut i16, left_limits_len: usize, left_marks: *mut u8, left_marks_len: usize,
-        right_samples: *mut u8, right_samples_len: usize, right_fronts: *mut u8, right_fronts_len: usize,
+        right_samples: *mut u16, right_samples_len: usize, right_fronts: *mut u8, right_fronts_len: usize,
         right_limits: *mut i16, right_limits_len: usize, right_marks: *mut u8, right_marks_len: usize,
-        combined: *mut u8, combined_len: usize,
+        combined: *mut u16, combined_len: usize,
         view: u32, block: Block, candidate: *const u8, candidate_len: usize,
         change: *mut i64, total: *mut u64,
     ) -> u32;
     fn luph_raw_check(
         settings: Settings,
-        left_texture: *const u8, left_texture_len: usize, right_texture: *const u8, right_texture_len: usize,
-        reference: *const u8, reference_len: usize,
+        left_texture: *const u16, left_texture_len: usize, right_texture: *const u16, right_texture_len: usize,
+        reference: *const u16, reference_len: usize,
         left_depths: *const u8, left_depths_len: usize, right_depths: *const u8, right_depths_len: usize,
-        left_samples: *const u8, left_samples_len: usize, left_fronts: *const u8, left_fronts_len: usize,
+        left_samples: *const u16, left_samples_len: usize, left_fronts: *const u8, left_fronts_len: usize,
         left_limits: *const i16, left_limits_len: usize, left_marks: *const u8, left_marks_len: usize,
-        right_samples: *const u8, right_samples_len: usize, right_fronts: *const u8, right_fronts_len: usize,
+        right_samples: *const u16, right_samples_len: usize, right_fronts: *const u8, right_fronts_len: usize,
         right_limits: *const i16, right_limits_len: usize, right_marks: *const u8, right_marks_len: usize,
-        combined: *const u8, combined_len: usize,
+        combined: *const u16, combined_len: usize,
         kind: *mut u32, row: *mut u32, column: *mut u32,
     ) -> u32;
     fn luph_raw_holes(
@@ -76,17 +76,18 @@ extern "C" {
 fn accepted<T>(number: u32, answer: T) -> Result<T, Refusal> {
     match number {
         0 => Ok(answer),
-        _ => Err(Refusal::from_number(number).expect("the library answers 0 to 8")),
+        _ => Err(Refusal::from_number(number).expect("the library answers 0 or a refusal's number")),
     }
 }
 
 /// RENDER: draws one row of one view, with that view's table, into samples, packed marks and front depths.
 ///
 /// Texture, depths, samples and fronts have `settings.w` entries, marks (w + 7) / 8 bytes; h, share, tolerance and
-/// total are not looked at. View 0 is left, view 1 right. Refuses 1 (by w alone), 2, 3, then 6.
+/// total are not looked at. A texture entry above 1,023 is read as 1,023. View 0 is left, view 1 right. Refuses 1 (by w
+/// alone), 2, 3, then 6.
 #[rustfmt::skip]
 pub fn render(
-    settings: &Settings, view: u32, texture: &[u8], depths: &[u8], samples: &mut [u8], marks: &mut [u8], fronts: &mut [u8],
+    settings: &Settings, view: u32, texture: &[u16], depths: &[u8], samples: &mut [u16], marks: &mut [u8], fronts: &mut [u8],
 ) -> Result<(), Refusal> {
     // SAFETY: see above.
     let number = unsafe {
@@ -100,7 +101,8 @@ pub fn render(
 
 /// OPEN: draws both views from pictures and depths into the held planes and writes the total into the settings.
 ///
-/// The total passed in is ignored; the depths are only read. Refuses 1, 2, 3, 4.
+/// The total passed in is ignored; the depths are only read. Refuses 1, 2, 3, 4, then 21: a texture or reference entry
+/// above 1,023.
 #[rustfmt::skip]
 pub fn open(settings: &mut Settings, pictures: &Pictures, planes: &mut PlanesMut) -> Result<(), Refusal> {
     let Pictures { textures: [lt, rt], reference } = pictures;
@@ -122,7 +124,8 @@ pub fn open(settings: &mut Settings, pictures: &Pictures, planes: &mut PlanesMut
 
 /// GET: how the total would change if the block of the view's depths were the candidate. Nothing is written.
 ///
-/// The candidate has width × height depths in row order. View 0 is left, view 1 right. Refuses 1, 2, 3, 4, 6, 5, 7, then 8.
+/// The candidate has width × height depths in row order. Samples above 1,023, of the pictures and of the planes, are read as
+/// 1,023. View 0 is left, view 1 right. Refuses 1, 2, 3, 4, 6, 5, 7, then 8.
 #[rustfmt::skip]
 #[inline]
 pub fn get(
@@ -148,7 +151,7 @@ pub fn get(
 /// SET: writes the candidate into the block, brings the held planes up to date, answers the change, and writes the new
 /// total into the settings.
 ///
-/// Refuses as [`get`] does.
+/// Reads samples and refuses as [`get`] does.
 #[rustfmt::skip]
 pub fn set(
     settings: &mut Settings, pictures: &Pictures, planes: &mut PlanesMut, view: u32, block: Block, candidate: &[u8],
@@ -170,7 +173,10 @@ pub fn set(
     Ok(change)
 }
 
-/// CHECK: compares every held entry with a fresh drawing of the depths. Nothing is written. Refuses 1, 2, 3, 4.
+/// CHECK: compares every held entry with a fresh drawing of the depths. Nothing is written.
+///
+/// The fresh drawing reads texture and reference entries above 1,023 as 1,023; held samples are compared as they are.
+/// Refuses 1, 2, 3, 4.
 #[rustfmt::skip]
 pub fn check(settings: &Settings, pictures: &Pictures, planes: &Planes) -> Result<Report, Refusal> {
     let Pictures { textures: [lt, rt], reference } = pictures;

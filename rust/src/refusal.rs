@@ -23,23 +23,34 @@ pub enum Refusal {
     View = 6,
     /// 7: a candidate whose length is not width × height.
     Candidate = 7,
-    /// 8: total plus change below 0 or above 65,025 × w × h. It never occurs in a [`Session`](crate::Session).
+    /// 8: total plus change below 0 or above 1,046,529 × w × h. It never occurs in a [`Session`](crate::Session).
     Total = 8,
+    /// 21: a texture or reference entry above 1,023.
+    Sample = 21,
 }
 
 impl Refusal {
     /// Every refusal, in the order of its number.
-    pub const ALL: [Refusal; 8] =
-        [Refusal::Size, Refusal::Plane, Refusal::Table, Refusal::Share, Refusal::Bounds, Refusal::View, Refusal::Candidate, Refusal::Total];
+    pub const ALL: [Refusal; 9] = [
+        Refusal::Size,
+        Refusal::Plane,
+        Refusal::Table,
+        Refusal::Share,
+        Refusal::Bounds,
+        Refusal::View,
+        Refusal::Candidate,
+        Refusal::Total,
+        Refusal::Sample,
+    ];
 
-    /// The refusal's number, 1 to 8.
+    /// The refusal's number.
     pub fn number(self) -> u32 {
         self as u32
     }
 
     /// The refusal with this number, if there is one.
     pub fn from_number(number: u32) -> Option<Refusal> {
-        Refusal::ALL.get(number.checked_sub(1)? as usize).copied()
+        Refusal::ALL.into_iter().find(|refusal| refusal.number() == number)
     }
 }
 
@@ -54,6 +65,7 @@ impl fmt::Display for Refusal {
             Refusal::View => "the view is neither 0 nor 1",
             Refusal::Candidate => "the candidate does not have width × height depths",
             Refusal::Total => "the total would leave its range",
+            Refusal::Sample => "a texture or reference sample is above 1,023",
         };
         write!(f, "refused ({}): {why}", self.number())
     }

@@ -5,8 +5,8 @@ use crate::{lent, Refusal, Settings, View};
 /// One drawn row of one view.
 #[derive(Clone, Debug, PartialEq, Eq)]
 pub struct Row {
-    /// The drawn samples.
-    pub samples: Vec<u8>,
+    /// The drawn samples, 0 to 1,023.
+    pub samples: Vec<u16>,
     /// The hole marks, packed: column x in bit x % 8 of byte x / 8, spare bits zero.
     pub marks: Vec<u8>,
     /// The depth that is seen at each position.
@@ -14,10 +14,11 @@ pub struct Row {
 }
 
 /// Draws one row of one view with that view's table. A sample between two columns of one surface is interpolated by the H.265
-/// luma filters, in quarters; the edge of a near object that hides columns begins at the rounded place, with the object's sample
-/// and depth and no mark.
+/// luma filters, in quarters, and held to 0 to 1,023; the edge of a near object that hides columns begins at the rounded place,
+/// with the object's sample and depth and no mark.
 ///
-/// Texture and depths have `settings.w` entries; h, share, tolerance and total are not looked at.
+/// Texture and depths have `settings.w` entries; h, share, tolerance and total are not looked at. A texture entry above
+/// [`GREATEST_SAMPLE`](crate::GREATEST_SAMPLE) is read as that.
 ///
 /// ```
 /// use luphwezane::{render, Settings, View};
@@ -33,7 +34,7 @@ pub struct Row {
 ///
 /// # Errors
 /// Refuses [`Size`](Refusal::Size) (by w alone), [`Plane`](Refusal::Plane) and [`Table`](Refusal::Table), in this order.
-pub fn render(settings: &Settings, view: View, texture: &[u8], depths: &[u8]) -> Result<Row, Refusal> {
+pub fn render(settings: &Settings, view: View, texture: &[u16], depths: &[u8]) -> Result<Row, Refusal> {
     let w = if settings.w <= 4096 { settings.w as usize } else { 0 };
     let mut row = Row { samples: vec![0; w], marks: vec![0; w.div_ceil(8)], fronts: vec![0; w] };
     lent::render(settings, view as u32, texture, depths, &mut row.samples, &mut row.marks, &mut row.fronts)?;

@@ -10,27 +10,27 @@ use std::fmt;
 #[derive(Clone)]
 pub struct Session {
     settings: Settings,
-    textures: [Vec<u8>; 2],
-    reference: Vec<u8>,
+    textures: [Vec<u16>; 2],
+    reference: Vec<u16>,
     depths: [Vec<u8>; 2],
-    samples: [Vec<u8>; 2],
+    samples: [Vec<u16>; 2],
     fronts: [Vec<u8>; 2],
     limits: [Vec<i16>; 2],
     marks: [Vec<u8>; 2],
-    combined: Vec<u8>,
+    combined: Vec<u16>,
 }
 
 impl Session {
     /// Draws both views from the pictures and depths. `settings.total` is ignored.
     ///
     /// # Errors
-    /// Refuses [`Size`](Refusal::Size), [`Plane`](Refusal::Plane), [`Table`](Refusal::Table) and
-    /// [`Share`](Refusal::Share), in this order.
+    /// Refuses [`Size`](Refusal::Size), [`Plane`](Refusal::Plane), [`Table`](Refusal::Table),
+    /// [`Share`](Refusal::Share) and [`Sample`](Refusal::Sample), in this order.
     pub fn open(settings: &Settings, pictures: &Pictures, depths: [&[u8]; 2]) -> Result<Session, Refusal> {
         let (area, packed) = lengths(settings);
         let mut session = Session {
             settings: *settings,
-            textures: pictures.textures.map(<[u8]>::to_vec),
+            textures: pictures.textures.map(<[u16]>::to_vec),
             reference: pictures.reference.to_vec(),
             depths: depths.map(<[u8]>::to_vec),
             samples: [vec![0; area], vec![0; area]],

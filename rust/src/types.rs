@@ -1,5 +1,12 @@
 //! The types that the calls share.
 
+/// The greatest sample of a picture: samples have ten bits, in entries of 16.
+///
+/// OPEN refuses a texture or reference with a higher entry. The other calls read a higher entry of a texture or reference as
+/// this one, and GET and SET read a higher held or combined sample so too; CHECK compares these as they are, so that a higher
+/// one is a difference.
+pub const GREATEST_SAMPLE: u16 = 1023;
+
 /// The settings of a session. The layout is that of `luph_settings` in the C header.
 #[repr(C)]
 #[derive(Clone, Copy, Debug, PartialEq, Eq)]
@@ -48,13 +55,13 @@ impl View {
     pub const BOTH: [View; 2] = [View::Left, View::Right];
 }
 
-/// The pictures of a session, which no call writes: w × h samples each, in row order.
+/// The pictures of a session, which no call writes: w × h samples each, 0 to [`GREATEST_SAMPLE`], in row order.
 #[derive(Clone, Copy, Debug)]
 pub struct Pictures<'a> {
     /// The left and the right view's texture.
-    pub textures: [&'a [u8]; 2],
+    pub textures: [&'a [u16]; 2],
     /// What the combined picture is measured against.
-    pub reference: &'a [u8],
+    pub reference: &'a [u16],
 }
 
 /// The planes of a session, to read. Of each pair the first is the left view's, the second the right view's.
@@ -62,8 +69,8 @@ pub struct Pictures<'a> {
 pub struct Planes<'a> {
     /// The depths, larger is nearer.
     pub depths: [&'a [u8]; 2],
-    /// The drawn samples.
-    pub samples: [&'a [u8]; 2],
+    /// The drawn samples, 0 to [`GREATEST_SAMPLE`].
+    pub samples: [&'a [u16]; 2],
     /// The depth that is seen at each drawn position.
     pub fronts: [&'a [u8]; 2],
     /// The limits, in quarter samples.
@@ -71,7 +78,7 @@ pub struct Planes<'a> {
     /// The hole marks, packed, (w + 7) / 8 bytes a row: column x in bit x % 8 of byte x / 8, spare bits zero.
     pub marks: [&'a [u8]; 2],
     /// The picture combined from both views.
-    pub combined: &'a [u8],
+    pub combined: &'a [u16],
 }
 
 /// The planes of a session, lent for writing.
@@ -80,7 +87,7 @@ pub struct PlanesMut<'a> {
     /// The depths, larger is nearer. OPEN only reads them.
     pub depths: [&'a mut [u8]; 2],
     /// The drawn samples.
-    pub samples: [&'a mut [u8]; 2],
+    pub samples: [&'a mut [u16]; 2],
     /// The depth that is seen at each drawn position.
     pub fronts: [&'a mut [u8]; 2],
     /// The limits, in quarter samples.
@@ -88,7 +95,7 @@ pub struct PlanesMut<'a> {
     /// The hole marks, packed.
     pub marks: [&'a mut [u8]; 2],
     /// The picture combined from both views.
-    pub combined: &'a mut [u8],
+    pub combined: &'a mut [u16],
 }
 
 impl PlanesMut<'_> {

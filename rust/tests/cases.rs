@@ -12,7 +12,7 @@ fn settings(w: u32) -> Settings {
 }
 
 /// A row, drawn by the library and by the independent renderer.
-fn drawn(view: View, texture: &[u8], depths: &[u8]) -> (Vec<u8>, Vec<u8>) {
+fn drawn(view: View, texture: &[u16], depths: &[u8]) -> (Vec<u16>, Vec<u8>) {
     let settings = settings(depths.len() as u32);
     let row = render(&settings, view, texture, depths).expect("RENDER accepts it");
     let pixels = paper::drawn_row(&settings.left, view as usize, texture, depths).pixels;
@@ -23,7 +23,7 @@ fn drawn(view: View, texture: &[u8], depths: &[u8]) -> (Vec<u8>, Vec<u8>) {
     (row.samples, marks)
 }
 
-const TEXTURE: [u8; 4] = [10, 20, 30, 40];
+const TEXTURE: [u16; 4] = [10, 20, 30, 40];
 
 #[test]
 fn rows_a_to_g() {
@@ -39,7 +39,7 @@ fn rows_a_to_g() {
 }
 
 /// The combined sample of one position that both views show: disparities are 0, so that no depth makes a hole.
-fn mixed(tolerance: u8, samples: [u8; 2], depths: [u8; 2]) -> u8 {
+fn mixed(tolerance: u8, samples: [u16; 2], depths: [u8; 2]) -> u16 {
     let settings = Settings { left: [0; 256], right: [0; 256], share: 32, tolerance, ..settings(1) };
     let pictures = Pictures { textures: [&samples[..1], &samples[1..]], reference: &[0] };
     let depths = [&depths[..1], &depths[1..]];
@@ -76,9 +76,10 @@ fn session_k_to_m() {
 
 /// What OPEN answers for a picture of zeros.
 fn opened(settings: &Settings) -> Result<(), Refusal> {
-    let plane = vec![0; settings.w as usize * settings.h as usize];
-    let pictures = Pictures { textures: [&plane, &plane], reference: &plane };
-    Session::open(settings, &pictures, [&plane, &plane]).map(|session| assert_eq!(session.check(), Report::Sound))
+    let area = settings.w as usize * settings.h as usize;
+    let (picture, depths) = (vec![0; area], vec![0; area]);
+    let pictures = Pictures { textures: [&picture, &picture], reference: &picture };
+    Session::open(settings, &pictures, [&depths, &depths]).map(|session| assert_eq!(session.check(), Report::Sound))
 }
 
 #[test]
@@ -99,12 +100,29 @@ fn boundary_values() {
     }
 }
 
-/// RENDER has the same boundary for w and the tables, and none for h and share.
+/// 1,023 is taken in the first and last entry of each picture, 1,024 gets 21, and 4 where the share is above 64 besides.
+#[test]
+fn boundary_values_of_samples() {
+    for (picture, at) in (0..3).flat_map(|picture| [(picture, 0), (picture, 11)]) {
+        let opened = |share: u8, sample: u16| {
+            let mut pictures = [[0; 12]; 3];
+            pictures[picture][at] = sample;
+            let pictures = Pictures { textures: [&pictures[0], &pictures[1]], reference: &pictures[2] };
+            Session::open(&Settings { h: 3, share, ..settings(4) }, &pictures, [&[0; 12], &[0; 12]]).map(|session| session.check())
+        };
+        assert_eq!(opened(64, 1023), Ok(Report::Sound));
+        assert_eq!(opened(64, 1024), Err(Refusal::Sample));
+        assert_eq!(opened(64, 65535), Err(Refusal::Sample));
+        assert_eq!(opened(65, 1024), Err(Refusal::Share));
+    }
+}
+
+/// RENDER has the same boundary for w and the tables, and none for h, share and samples.
 #[test]
 fn boundary_values_of_render() {
     let drawn = |settings: Settings| {
-        let row = vec![0; settings.w as usize];
-        render(&settings, View::Right, &row, &row).map(|row| row.samples.len())
+        let w = settings.w as usize;
+        render(&settings, View::Right, &vec![0; w], &vec![0; w]).map(|row| row.samples.len())
     };
     assert_eq!(drawn(settings(4096)), Ok(4096));
     assert_eq!(drawn(settings(0)), Err(Refusal::Size));
@@ -113,20 +131,60 @@ fn boundary_values_of_render() {
     assert_eq!(drawn(Settings { left: [1024; 256], ..settings(9) }), Err(Refusal::Table));
     assert_eq!(render(&settings(9), View::Left, &[0; 9], &[0; 8]), Err(Refusal::Plane));
     assert_eq!(render(&settings(u32::MAX), View::Left, &[], &[]), Err(Refusal::Size));
+    let read = render(&settings(4), View::Left, &[0, 1024, 65535, 1023], &[0; 4]).expect("RENDER accepts it");
+    assert_eq!(read.samples, [0, 1023, 1023, 1023]);
 }
 
-/// The largest picture and the largest change: every position goes from the left view's black to the right view's white.
-#[test]
-fn largest_picture() {
-    let settings = Settings { h: 4096, left: [0; 256], right: [0; 256], tolerance: 0, ..settings(4096) };
-    let (black, white) = (vec![0; 4096 * 4096], vec![255; 4096 * 4096]);
-    let pictures = Pictures { textures: [&black, &white], reference: &white };
-    let mut session = Session::open(&settings, &pictures, [&black, &black]).expect("OPEN accepts it");
-    assert_eq!(session.total(), 65025 * 4096 * 4096);
-    let whole = Block { column: 0, row: 0, width: 4096, height: 4096 };
-    assert_eq!(session.get(View::Right, whole, &white), Ok(-65025 * 4096 * 4096));
-    assert_eq!(session.set(View::Right, whole, &white), Ok(-65025 * 4096 * 4096));
-    assert_eq!((session.total(), session.holes(View::Right)), (0, 0));
-    assert_eq!(session.get(View::Right, whole, &black), Ok(65025 * 4096 * 4096));
+/// The largest change of a picture: every position goes from the left view's sample to the right view's, which the reference
+/// has, and back.
+fn largest_change(h: u32, left: u16, right: u16) {
+    let settings = Settings { h, left: [0; 256], right: [0; 256], tolerance: 0, ..settings(4096) };
+    let area = 4096 * h as usize;
+    let (left, right) = (vec![left; area], vec![right; area]);
+    let (far, near) = (vec![0; area], vec![255; area]);
+    let pictures = Pictures { textures: [&left, &right], reference: &right };
+    let mut session = Session::open(&settings, &pictures, [&near, &far]).expect("OPEN accepts it");
+    let worst = 1_046_529 * 4096 * i64::from(h);
+    assert_eq!(session.total() as i64, worst);
     assert_eq!(session.check(), Report::Sound);
+    let whole = Block { column: 0, row: 0, width: 4096, height: h };
+    assert_eq!(session.get(View::Left, whole, &far), Ok(0));
+    assert_eq!(session.set(View::Left, whole, &far), Ok(0));
+    assert_eq!(session.get(View::Right, whole, &near), Ok(-worst));
+    assert_eq!(session.set(View::Right, whole, &near), Ok(-worst));
+    assert_eq!((session.total(), session.holes(View::Right)), (0, 0));
+    assert_eq!(session.get(View::Right, whole, &far), Ok(worst));
+    assert_eq!(session.set(View::Right, whole, &far), Ok(worst));
+    assert_eq!(session.total() as i64, worst);
+    assert_eq!(session.check(), Report::Sound);
+}
+
+/// A row of 4,096 greatest squares, in pictures of few rows and in the largest.
+#[test]
+fn largest_changes() {
+    for h in [1, 2, 3] {
+        largest_change(h, 0, 1023);
+        largest_change(h, 1023, 0);
+    }
+    largest_change(4096, 0, 1023);
+}
+
+/// Two flat textures show one sample whatever the depths are, and every square stays the greatest.
+#[test]
+fn every_square_is_the_greatest() {
+    let settings = Settings { h: 2, share: 32, ..settings(4096) };
+    let (black, white) = ([0; 2 * 4096], [1023; 2 * 4096]);
+    let depths: Vec<u8> = (0..2 * 4096).map(|at| (at / 5 * 37 % 256) as u8).collect();
+    for (texture, reference) in [(&black, &white), (&white, &black)] {
+        let pictures = Pictures { textures: [texture, texture], reference };
+        let mut session = Session::open(&settings, &pictures, [&depths, &depths]).expect("OPEN accepts it");
+        for (view, column, width) in [(View::Left, 0, 4096), (View::Right, 0, 4096), (View::Left, 4088, 8), (View::Right, 0, 8)] {
+            let block = Block { column, row: 0, width, height: 2 };
+            let candidate: Vec<u8> = (0..2 * width).map(|at| (at / 3 * 91 % 256) as u8).collect();
+            assert_eq!(session.get(view, block, &candidate), Ok(0));
+            assert_eq!(session.set(view, block, &candidate), Ok(0));
+            assert_eq!((session.total(), session.check()), (1_046_529 * 2 * 4096, Report::Sound));
+        }
+        assert_eq!(session.planes().combined, texture);
+    }
 }

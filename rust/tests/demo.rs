@@ -24,6 +24,25 @@ fn numbers(output: &Output) -> Vec<String> {
     lines.lines().skip(1).filter(|line| !line.starts_with("pictures in")).map(str::to_string).collect()
 }
 
+/// The arguments for a run from files of a folder, with pictures written to another.
+fn run_again<'a>(files: &'a [PathBuf; 5], out: &'a Path) -> Vec<&'a str> {
+    ["--out", text(out)].into_iter().chain(files.iter().map(|file| text(file))).collect()
+}
+
+/// The largest sample and the samples of a written picture of w × h.
+fn picture(path: &Path, w: usize, h: usize) -> (u16, Vec<u16>) {
+    let bytes = std::fs::read(path).expect("the picture was written");
+    let rest = bytes.strip_prefix(format!("P5\n{w} {h}\n").as_bytes()).expect("it has its size");
+    let end = rest.iter().position(|&byte| byte == b'\n').expect("a line ends");
+    let largest = std::str::from_utf8(&rest[..end]).ok().and_then(|text| text.parse().ok()).expect("a number");
+    let samples: Vec<u16> = match largest {
+        0..=255 => rest[end + 1..].iter().map(|&byte| byte.into()).collect(),
+        _ => rest[end + 1..].chunks(2).map(|two| u16::from_be_bytes([two[0], two[1]])).collect(),
+    };
+    assert_eq!(samples.len(), w * h);
+    (largest, samples)
+}
+
 #[test]
 fn made_scene_and_the_same_from_files() {
     let (made, again) = (folder("made"), folder("again"));
@@ -32,14 +51,56 @@ fn made_scene_and_the_same_from_files() {
     assert!(first.iter().all(|line| !line.contains('\r')), "progress is for terminals");
     let files = ["left", "right", "reference", "depth-left-before", "depth-right-before"];
     let files = files.map(|name| made.join(format!("{name}.pgm")));
-    let mut arguments = vec!["--out", text(&again)];
-    arguments.extend(files.iter().map(|file| text(file)));
-    assert_eq!(numbers(&demo(&arguments)), first);
-    for name in ["combined-before", "combined-after", "errors-before", "errors-after", "holes-left-after", "holes-right-after"] {
-        let read = |folder: &Path| std::fs::read(folder.join(format!("{name}.pgm"))).expect("the picture was written");
-        let picture = read(&made);
-        assert_eq!(picture, read(&again));
-        assert!(picture.starts_with(b"P5\n320 192\n255\n") && picture.len() == 15 + 320 * 192);
+    assert_eq!(numbers(&demo(&run_again(&files, &again))), first);
+    for (name, largest) in [
+        ("combined-before", 1023),
+        ("combined-after", 1023),
+        ("errors-before", 1023),
+        ("errors-after", 1023),
+        ("holes-left-after", 255),
+        ("holes-right-after", 255),
+        ("depth-left-after", 255),
+        ("depth-right-after", 255),
+    ] {
+        let read = |folder: &Path| picture(&folder.join(format!("{name}.pgm")), 320, 192);
+        assert_eq!(read(&made), read(&again), "{name}");
+        assert_eq!(read(&made).0, largest, "{name}");
+    }
+    let (_, samples) = picture(&made.join("left.pgm"), 320, 192);
+    assert!((0..4).all(|bits| samples.iter().any(|sample| sample % 4 == bits)), "the scene has ten bits");
+}
+
+/// Pictures of every number of bits up to ten: what is written goes up to the same sample, although the filter passes it.
+#[test]
+fn pictures_of_fewer_bits() {
+    let (w, h) = (24, 8);
+    for largest in [1_u16, 15, 255, 256, 511, 1023] {
+        let folder = folder(&format!("up-to-{largest}"));
+        let plain = |name: &str, largest: u16, sample: &dyn Fn(usize, usize) -> u16| {
+            let samples: String = (0..w * h).map(|at| format!("{}\n", sample(at % w, at / w))).collect();
+            let path = folder.join(name);
+            std::fs::write(&path, format!("P2\n{w} {h}\n{largest}\n{samples}")).expect("the file can be written");
+            path
+        };
+        let edges = |x: usize, y: usize| if (x / 3 + y / 2) % 2 == 0 { 0 } else { largest };
+        let files = [
+            plain("left.pgm", largest, &edges),
+            plain("right.pgm", largest, &edges),
+            plain("reference.pgm", largest, &edges),
+            plain("left-depth.pgm", 255, &|x, _| 2 * (x / 8) as u16 + 5),
+            plain("right-depth.pgm", 15, &|_, _| 6),
+        ];
+        let out = folder.join("out");
+        assert!(numbers(&demo(&run_again(&files, &out))).contains(&"check   sound".to_string()));
+        let read = |name: &str| picture(&out.join(name), w, h);
+        assert_eq!(read("left.pgm"), (largest, (0..w * h).map(|at| edges(at % w, at / w)).collect()));
+        for (name, written) in [("combined-before.pgm", largest), ("errors-before.pgm", largest), ("depth-left-before.pgm", 255)] {
+            let (up_to, samples) = read(name);
+            assert_eq!(up_to, written, "{name}");
+            assert!(samples.iter().all(|&sample| sample <= written), "{name}");
+        }
+        let (_, combined) = read("combined-before.pgm");
+        assert!(combined.contains(&largest) && combined.contains(&0));
     }
 }
 
@@ -55,21 +116,38 @@ fn files_that_cannot_be_taken() {
     let short = file("short.pgm", b"P5\n3 2\n255\nabcde");
     let tall = file("tall.pgm", b"P2\n2 3\n255\n1 2 3 4 5 6\n");
     let other = file("other.txt", b"depths\n");
+    let deep = file("deep.pgm", b"P5\n3 2\n1023\n\0a\0b\0c\0d\0e\0f");
+    let deeper = file("deeper.pgm", b"P5\n3 2\n4095\n\0a\0b\0c\0d\0e\0f");
     let missing = text(&folder.join("missing.pgm")).to_string();
     for (file, what) in [
         (&missing, format!("demo: {missing} cannot be read: ")),
         (&short, format!("demo: {short} is damaged: 5 bytes of samples where 6 are needed\n")),
         (&tall, format!("demo: {tall} is 2 × 3, but {good} is 3 × 2: all five must have one size\n")),
         (&other, format!("demo: {other} is not a PGM picture: it begins with neither P5 nor P2\n")),
+        (&deep, format!("demo: {deep} has samples up to 1023: depths up to 255 are taken\n")),
+        (&deeper, format!("demo: {deeper} has samples up to 4095: samples up to 1,023 are taken\n")),
     ] {
-        let output = demo(&[&good, &good, &good, file, &good]);
-        assert_eq!(output.status.code(), Some(1));
-        let said = String::from_utf8_lossy(&output.stderr);
-        assert!(said.starts_with(&what), "{said}");
-        assert!(output.stdout.is_empty());
+        assert_refused(&[&good, &good, &good, file, &good], &what);
+        assert_refused(&[&good, &good, &good, &good, file], &what);
+    }
+    for files in [[&good, &deep, &good], [&good, &good, &deep]] {
+        let what =
+            format!("demo: {deep} has samples up to 1023, but {good} up to 255: left, right and reference must have one largest value\n");
+        assert_refused(&[files[0], files[1], files[2], &good, &good], &what);
     }
     let out = folder.join("out");
-    assert!(demo(&["--out", text(&out), &good, &good, &good, &good, &good]).status.success());
+    for picture in [&good, &deep] {
+        assert!(demo(&["--out", text(&out), picture, picture, picture, &good, &good]).status.success());
+    }
+}
+
+/// The program says what is wrong and nothing else.
+fn assert_refused(arguments: &[&str], what: &str) {
+    let output = demo(arguments);
+    assert_eq!(output.status.code(), Some(1));
+    let said = String::from_utf8_lossy(&output.stderr);
+    assert!(said.starts_with(what), "{said}");
+    assert!(output.stdout.is_empty());
 }
 
 #[test]
@@ -80,10 +158,7 @@ fn arguments_that_cannot_be_taken() {
         (&["--disparity", "1024"], "demo: --disparity needs a number from 0 to 1023\n"),
         (&["--fast"], "demo: --fast is not an option (see --help)\n"),
     ] {
-        let output = demo(arguments);
-        assert_eq!(output.status.code(), Some(1));
-        let said = String::from_utf8_lossy(&output.stderr);
-        assert!(said.starts_with(what), "{said}");
+        assert_refused(arguments, what);
     }
     let help = demo(&["--help"]);
     assert!(help.status.success() && String::from_utf8_lossy(&help.stdout).starts_with("usage: demo"));

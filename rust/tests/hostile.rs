@@ -1,4 +1,5 @@
-//! Calls that no careful caller makes: wrong lengths and numbers, several at once, and planes full of garbage.
+//! Calls that no careful caller makes: wrong lengths and numbers, several at once, planes full of garbage, and samples above
+//! 1,023.
 //!
 //! Every call ends, is refused exactly with the first number of its list, writes nothing where it is refused and nothing
 //! outside its planes ever. A longer run:
@@ -8,15 +9,16 @@
 mod paper;
 mod random;
 
-use luphwezane::{lent, Block, Pictures, Refusal, Report, Settings};
+use luphwezane::{lent, Block, Pictures, Planes, Refusal, Report, Settings};
+use paper::Drawing;
 use random::{Guarded, GuardedPlanes, Random, Scene};
 
 /// All that a call is passed.
 #[derive(Clone, PartialEq, Debug)]
 struct Call {
     settings: Settings,
-    textures: [Guarded<u8>; 2],
-    reference: Guarded<u8>,
+    textures: [Guarded<u16>; 2],
+    reference: Guarded<u16>,
     planes: GuardedPlanes,
     view: u32,
     block: Block,
@@ -38,8 +40,8 @@ impl Call {
         let candidate = random::candidate(random, w, &scene.depths[view], block);
         Call {
             settings,
-            textures: scene.textures.each_ref().map(|plane| Guarded::new(plane, 0x3c)),
-            reference: Guarded::new(&scene.reference, 0x3c),
+            textures: scene.textures.each_ref().map(|plane| Guarded::new(plane, 0x3c3c)),
+            reference: Guarded::new(&scene.reference, 0x3c3c),
             planes,
             view: view as u32,
             block,
@@ -85,9 +87,32 @@ impl Call {
         lent::holes(&self.settings, self.view, self.planes.shared().marks)
     }
 
+    /// The fresh drawing of the depths as they stand.
+    fn drawing(&self) -> Drawing {
+        paper::drawing(&self.settings, &self.pictures(), self.planes.shared().depths)
+    }
+
+    fn pictures_mut(&mut self) -> [&mut [u16]; 3] {
+        let [left, right] = self.textures.each_mut().map(Guarded::entries_mut);
+        [left, right, self.reference.entries_mut()]
+    }
+
+    fn samples_mut(&mut self) -> [&mut [u16]; 3] {
+        let [left, right] = self.planes.samples.each_mut().map(Guarded::entries_mut);
+        [left, right, self.planes.combined.entries_mut()]
+    }
+
+    /// The same call with every sample as GET and SET read it.
+    fn read(&self) -> Call {
+        let mut call = self.clone();
+        call.pictures_mut().into_iter().flatten().for_each(|entry| *entry = paper::read(*entry));
+        call.samples_mut().into_iter().flatten().for_each(|entry| *entry = paper::read(*entry));
+        call
+    }
+
     /// One thing made wrong, or at least different.
     fn spoil(&mut self, random: &mut Random) {
-        match random.between(0, 11) {
+        match random.between(0, 12) {
             0 => self.settings.w = random.pick(&[0, 4097, self.settings.w.wrapping_add(65536), u32::MAX]),
             1 => self.settings.h = random.pick(&[0, 4097, self.settings.h.wrapping_add(65536), u32::MAX]),
             2 => std::mem::swap(&mut self.settings.w, &mut self.settings.h),
@@ -108,6 +133,12 @@ impl Call {
                 *number = random.pick(&[0, 1, 4096, 65536, u32::MAX - 1, u32::MAX, 0u32.wrapping_sub(*number)]);
             }
             10 => self.candidate = resized(random, &self.candidate),
+            11 => {
+                let picture = &mut self.pictures_mut()[random.between(0, 2)];
+                if let Some(last) = picture.len().checked_sub(1) {
+                    picture[random.between(0, last)] = random.high();
+                }
+            }
             _ => self.settings.total = random.next() >> random.between(0, 63),
         }
     }
@@ -115,17 +146,16 @@ impl Call {
     fn spoil_length(&mut self, random: &mut Random) {
         let v = random.between(0, 1);
         let planes = &mut self.planes;
-        let bytes = match random.between(0, 7) {
-            0 => &mut self.textures[v],
-            1 => &mut self.reference,
-            2 => &mut planes.depths[v],
-            3 => &mut planes.samples[v],
-            4 => &mut planes.fronts[v],
-            5 => &mut planes.marks[v],
-            6 => &mut planes.combined,
-            _ => return planes.limits[v] = resized(random, &planes.limits[v]),
-        };
-        *bytes = resized(random, bytes);
+        match random.between(0, 7) {
+            0 => self.textures[v] = resized(random, &self.textures[v]),
+            1 => self.reference = resized(random, &self.reference),
+            2 => planes.depths[v] = resized(random, &planes.depths[v]),
+            3 => planes.samples[v] = resized(random, &planes.samples[v]),
+            4 => planes.fronts[v] = resized(random, &planes.fronts[v]),
+            5 => planes.marks[v] = resized(random, &planes.marks[v]),
+            6 => planes.combined = resized(random, &planes.combined),
+            _ => planes.limits[v] = resized(random, &planes.limits[v]),
+        }
     }
 }
 
@@ -144,23 +174,39 @@ fn refusal(number: u32) -> Refusal {
 /// The answer of a GET or SET whose planes may be those of no session: its first number, else some change or 8.
 fn answered(call: &Call, answer: Result<i64, Refusal>) {
     match (call.number(), answer) {
-        (0, Ok(change)) => assert!(in_range(&call.settings, change), "change {change} takes the total out of range"),
+        (0, Ok(change)) => assert!(paper::total_is_taken(&call.settings, change), "change {change} takes the total out of range"),
         (0, Err(other)) => assert_eq!(other, Refusal::Total),
         (number, _) => assert_eq!(answer, Err(refusal(number))),
     }
 }
 
-/// GET, then SET, of a call whose planes may be those of no session.
+/// GET, then SET, of a call whose planes may be those of no session: both answer as where every sample is what they read.
 fn edit(call: &mut Call) {
-    let before = call.clone();
+    let (before, mut read) = (call.clone(), call.read());
     answered(call, call.get());
+    assert_eq!(call.get(), read.get());
     assert!(*call == before, "GET wrote");
     let answer = call.set();
     answered(&before, answer);
+    assert_eq!(answer, read.set());
     assert!(call.planes.are_intact(), "a guard was written");
     match answer {
         Err(_) => assert!(*call == before, "a refused SET wrote"),
-        Ok(change) => compare_any(&before, call, change),
+        Ok(change) => {
+            compare_any(&before, call, change);
+            compare_read(&before, call, &read);
+        }
+    }
+}
+
+/// The planes after a SET, and after the SET in which every sample was what is read: what SET writes is the same, and a sample
+/// that it does not write stays as it is.
+fn compare_read(before: &Call, after: &Call, read: &Call) {
+    let (old, new, read) = (before.planes.shared(), after.planes.shared(), read.planes.shared());
+    assert_eq!((new.fronts, new.limits, new.marks), (read.fronts, read.limits, read.marks));
+    let samples = |planes: &Planes| [planes.samples[0], planes.samples[1], planes.combined].concat();
+    for ((old, new), read) in samples(&old).into_iter().zip(samples(&new)).zip(samples(&read)) {
+        assert!(new == read || new == old && read == paper::read(old), "{old} became {new}, and {read} where it was read");
     }
 }
 
@@ -189,21 +235,13 @@ fn compare_any(before: &Call, after: &Call, change: i64) {
     }
 }
 
-fn in_range(settings: &Settings, change: i64) -> bool {
-    let total = i128::from(settings.total) + i128::from(change);
-    (0..=65025 * i128::from(settings.w) * i128::from(settings.h)).contains(&total)
-}
-
 /// CHECK and HOLES are decided for all planes.
 fn questions(call: &Call) {
     let before = call.clone();
     let (report, count) = (call.check(), call.holes());
     assert!(*call == before, "CHECK or HOLES wrote");
     match call.common_number() {
-        0 => {
-            let fresh = paper::drawing(&call.settings, &call.pictures(), call.planes.shared().depths);
-            assert_eq!(report, Ok(paper::report(&call.settings, &fresh, &call.planes.shared())));
-        }
+        0 => assert_eq!(report, Ok(paper::report(&call.settings, &call.drawing(), &call.planes.shared()))),
         number => assert_eq!(report, Err(refusal(number))),
     }
     let marks = call.planes.shared().marks;
@@ -218,7 +256,7 @@ fn opened(mut call: Call) {
     let before = call.clone();
     let opened = call.open();
     assert!(call.planes.are_intact(), "a guard was written");
-    match before.common_number() {
+    match paper::open_number(&before.settings, &before.pictures(), &before.planes.shared()) {
         0 => {
             assert_eq!(opened, Ok(()));
             assert_eq!(call.planes.depths, before.planes.depths);
@@ -231,30 +269,39 @@ fn opened(mut call: Call) {
     }
 }
 
-/// RENDER with some lengths and numbers wrong.
+/// RENDER of any texture, with some lengths and numbers wrong.
 fn rendered(random: &mut Random, call: &Call) {
     let w = random.between(1, 40);
-    let mut planes = [w, w, w, paper::mark_bytes(w), w].map(|n| Guarded::new(&random.bytes(n), 0x3c));
-    if random.once_in(2) {
-        let at = random.between(0, 4);
-        planes[at] = resized(random, &planes[at]);
+    let mut samples = [(); 2].map(|()| Guarded::new(&random.entries(w), 0x3c3c));
+    let mut bytes = [w, paper::mark_bytes(w), w].map(|n| Guarded::new(&random.bytes(n), 0x3c));
+    match random.between(0, 9) {
+        at @ 0..=1 => samples[at] = resized(random, &samples[at]),
+        at @ 2..=4 => bytes[at - 2] = resized(random, &bytes[at - 2]),
+        _ => (),
     }
     let w = if random.once_in(4) { call.settings.w } else { w as u32 };
     let settings = Settings { w, ..call.settings };
-    let before = planes.clone();
-    let [texture, depths, samples, marks, fronts] = &mut planes;
-    let lens = [&texture, &depths, &samples, &fronts].map(|plane| plane.entries().len());
+    let before = (samples.clone(), bytes.clone());
+    let ([texture, drawn], [depths, marks, fronts]) = (&mut samples, &mut bytes);
+    let lens = [texture.entries().len(), depths.entries().len(), drawn.entries().len(), fronts.entries().len()];
     let number = paper::render_number(&settings, call.view, lens, marks.entries().len());
     let (texture, depths) = (texture.entries(), depths.entries());
-    let answer = lent::render(&settings, call.view, texture, depths, samples.entries_mut(), marks.entries_mut(), fronts.entries_mut());
-    assert!(planes.iter().all(Guarded::is_intact), "a guard was written");
+    let answer = lent::render(&settings, call.view, texture, depths, drawn.entries_mut(), marks.entries_mut(), fronts.entries_mut());
     match number {
-        0 => assert_eq!(answer, Ok(())),
+        0 => {
+            assert_eq!(answer, Ok(()));
+            let view = call.view as usize;
+            let pixels = paper::drawn_row(paper::table(&settings, view), view, texture, depths).pixels;
+            assert_eq!(drawn.entries(), pixels.iter().map(|x| x.sample).collect::<Vec<_>>());
+            assert_eq!(marks.entries(), paper::packed(pixels.iter().map(|x| x.mark)));
+            assert_eq!(fronts.entries(), pixels.iter().map(|x| x.front).collect::<Vec<_>>());
+        }
         _ => {
             assert_eq!(answer, Err(refusal(number)));
-            assert!(planes == before, "a refused RENDER wrote");
+            assert!((&samples, &bytes) == (&before.0, &before.1), "a refused RENDER wrote");
         }
     }
+    assert!(samples.iter().all(Guarded::is_intact) && bytes.iter().all(Guarded::is_intact), "a guard was written");
 }
 
 #[test]
@@ -285,7 +332,10 @@ fn garbage_planes() {
                 limits[random.between(0, w * h - 1)] = random::garbage_limit(random);
             }
         }
-        call.settings.total = random.pick(&[0, call.settings.total, 65025 * (w * h) as u64 / 2, u64::MAX]);
+        if random.once_in(2) {
+            call.pictures_mut().into_iter().for_each(|picture| picture.copy_from_slice(&random.entries(w * h)));
+        }
+        call.settings.total = random.pick(&[0, call.settings.total, paper::WORST * (w * h) as u64 / 2, u64::MAX]);
         for _ in 0..4 {
             questions(&call);
             edit(&mut call);
@@ -298,6 +348,83 @@ fn garbage_planes() {
     });
 }
 
+/// Some entries of 1,023 become something higher, which is read as 1,023; how many.
+fn raise(random: &mut Random, planes: [&mut [u16]; 3]) -> usize {
+    let mut raised = 0;
+    for entry in planes.into_iter().flatten().filter(|entry| **entry == 1023) {
+        if random.once_in(2) {
+            *entry = random.high();
+            raised += 1;
+        }
+    }
+    raised
+}
+
+/// GET and SET of a session some of whose samples were raised, against fresh drawings: the change, the depths and the total
+/// are the session's. A sample that SET writes is the fresh one. Outside the span each stays as it is, raised or not.
+fn edit_raised(mut call: Call) {
+    let before = call.clone();
+    let (v, block, settings) = (call.view as usize, call.block, call.settings);
+    let old = before.planes.shared();
+    let depths = paper::written(&settings, old.depths, v, block, call.candidate.entries());
+    let fresh = paper::drawing(&settings, &call.pictures(), [&depths[0], &depths[1]]);
+    let change = fresh.total as i64 - settings.total as i64;
+    assert_eq!(call.get(), Ok(change));
+    assert!(call == before, "GET wrote");
+    assert_eq!(call.set(), Ok(change));
+    assert!(call.planes.are_intact(), "a guard was written");
+    assert_eq!(call.settings, Settings { total: fresh.total, ..settings });
+    let new = call.planes.shared();
+    assert_eq!(new.depths, depths);
+    assert_eq!((new.fronts, new.marks), (both(&fresh.fronts), both(&fresh.marks)));
+    assert_eq!(new.limits, both(&fresh.limits));
+    assert_eq!(new.samples[1 - v], old.samples[1 - v]);
+    let w = settings.w as usize;
+    for y in 0..settings.h as usize {
+        let edited = (block.row as usize..(block.row + block.height) as usize).contains(&y);
+        let span = edited.then(|| paper::span(&settings, v, block, old.depths[v], &depths[v], y));
+        for x in 0..w {
+            let (at, shown) = (y * w + x, span.as_ref().is_some_and(|span| span.shown[x]));
+            for (old, new, fresh) in [(old.samples[v], new.samples[v], &fresh.samples[v]), (old.combined, new.combined, &fresh.combined)] {
+                let (old, new, fresh) = (old[at], new[at], fresh[at]);
+                let stays = new == old && paper::read(old) == fresh;
+                assert!(stays || new == fresh && shown, "row {y}, column {x}: {old} became {new}, drawn {fresh}, in the span {shown}");
+            }
+        }
+    }
+}
+
+fn both<T>(pair: &[Vec<T>; 2]) -> [&[T]; 2] {
+    [&pair[0], &pair[1]]
+}
+
+/// Samples of a session above 1,023, of the pictures, of the held planes, and of both.
+#[test]
+fn raised_samples() {
+    random::sessions("raised samples", 3000, |random, _| {
+        let mut call = Call::accepted(random);
+        for picture in call.pictures_mut() {
+            if random.once_in(2) {
+                picture.iter_mut().filter(|_| random.once_in(3)).for_each(|entry| *entry = 1023);
+            }
+        }
+        call.open().expect("OPEN accepts it");
+        let (mut pictures, mut held) = (call.clone(), call.clone());
+        if raise(random, pictures.pictures_mut()) > 0 {
+            opened(pictures.clone());
+        }
+        assert_eq!(pictures.check(), Ok(Report::Sound));
+        let raised = raise(random, held.samples_mut());
+        assert_eq!(held.check() == Ok(Report::Sound), raised == 0);
+        let all = Call { planes: held.planes.clone(), ..pictures.clone() };
+        for call in [pictures, held, all] {
+            questions(&call);
+            edit(&mut call.clone());
+            edit_raised(call);
+        }
+    });
+}
+
 /// 8 where the total that is passed in cannot be a session's.
 #[test]
 fn totals_out_of_range() {
@@ -305,10 +432,10 @@ fn totals_out_of_range() {
     for _ in 0..200 {
         let mut call = Call::accepted(random);
         let change = call.get().expect("GET accepts it");
-        let most = 65025 * u64::from(call.settings.w) * u64::from(call.settings.h);
+        let most = paper::WORST * u64::from(call.settings.w) * u64::from(call.settings.h);
         for total in [0, 1, most - 1, most, most + 1, 1 << 63, (1 << 63) - 1, u64::MAX, change.unsigned_abs()] {
             call.settings.total = total;
-            let expected = if in_range(&call.settings, change) { Ok(change) } else { Err(Refusal::Total) };
+            let expected = if paper::total_is_taken(&call.settings, change) { Ok(change) } else { Err(Refusal::Total) };
             assert_eq!(call.get(), expected);
             let before = call.clone();
             if expected.is_err() {

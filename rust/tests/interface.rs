@@ -1,35 +1,48 @@
 //! What a caller of the Rust crate sees besides the answers: refusals as errors, and a session's planes.
 
-use luphwezane::{Block, Pictures, Refusal, Report, Session, Settings, View};
+use luphwezane::{Block, Pictures, Refusal, Report, Session, Settings, View, GREATEST_SAMPLE};
 use std::error::Error;
+use std::mem::{align_of, offset_of, size_of};
 
 #[test]
 fn refusals_have_numbers_and_words() {
-    let words = [
-        "refused (1): w or h is outside 1 to 4,096",
-        "refused (2): a plane does not have its exact length",
-        "refused (3): a disparity is above 1,023",
-        "refused (4): the share is above 64",
-        "refused (5): the block is empty or reaches past an edge",
-        "refused (6): the view is neither 0 nor 1",
-        "refused (7): the candidate does not have width × height depths",
-        "refused (8): the total would leave its range",
+    let refusals = [
+        (Refusal::Size, 1, "refused (1): w or h is outside 1 to 4,096"),
+        (Refusal::Plane, 2, "refused (2): a plane does not have its exact length"),
+        (Refusal::Table, 3, "refused (3): a disparity is above 1,023"),
+        (Refusal::Share, 4, "refused (4): the share is above 64"),
+        (Refusal::Bounds, 5, "refused (5): the block is empty or reaches past an edge"),
+        (Refusal::View, 6, "refused (6): the view is neither 0 nor 1"),
+        (Refusal::Candidate, 7, "refused (7): the candidate does not have width × height depths"),
+        (Refusal::Total, 8, "refused (8): the total would leave its range"),
+        (Refusal::Sample, 21, "refused (21): a texture or reference sample is above 1,023"),
     ];
-    for (number, words) in (1..).zip(words) {
-        let refusal = Refusal::from_number(number).expect("a refusal's number");
-        assert_eq!(refusal.number(), number);
+    assert_eq!(Refusal::ALL, refusals.map(|(refusal, ..)| refusal));
+    for (refusal, number, words) in refusals {
+        assert_eq!((refusal.number(), Refusal::from_number(number)), (number, Some(refusal)));
         assert_eq!(refusal.to_string(), words);
         let error: Box<dyn Error + Send + Sync> = refusal.into();
         assert_eq!(error.to_string(), words);
     }
-    assert_eq!(Refusal::from_number(0), None);
-    assert_eq!(Refusal::from_number(9), None);
+    for number in [0, 9, 20, 22, 277, u32::MAX] {
+        assert_eq!(Refusal::from_number(number), None);
+    }
+}
+
+/// What is passed by value has the layout that the C header gives it.
+#[test]
+fn layouts_and_constants() {
+    assert_eq!((size_of::<Settings>(), align_of::<Settings>()), (1048, 8));
+    assert_eq!([offset_of!(Settings, w), offset_of!(Settings, h), offset_of!(Settings, left), offset_of!(Settings, right)], [0, 4, 8, 520]);
+    assert_eq!([offset_of!(Settings, share), offset_of!(Settings, tolerance), offset_of!(Settings, total)], [1032, 1033, 1040]);
+    assert_eq!((size_of::<Block>(), align_of::<Block>()), (16, 4));
+    assert_eq!(GREATEST_SAMPLE, 1023);
 }
 
 fn session() -> Session {
     let table = std::array::from_fn(|d| d as u16);
     let settings = Settings { w: 9, h: 2, left: table, right: table, share: 32, tolerance: 0, total: 0 };
-    let texture: Vec<u8> = (0..18).map(|x| 10 * x).collect();
+    let texture: Vec<u16> = (0..18).map(|x| 50 * x).collect();
     let pictures = Pictures { textures: [&texture, &texture], reference: &texture };
     Session::open(&settings, &pictures, [&[0; 18], &[0; 18]]).expect("OPEN accepts it")
 }
@@ -58,7 +71,7 @@ fn every_plane_can_be_read() {
     assert_eq!(planes.limits[0][17], 23);
     assert_eq!(planes.limits[1][9], 32);
     assert_eq!(planes.marks[0], [0, 0, 128, 1]);
-    assert_eq!(planes.samples[0][17], 170);
+    assert_eq!(planes.samples[0][17], 850);
     assert_eq!((planes.combined.len(), session.pictures().reference.len()), (18, 18));
     assert!(session.is_hole(View::Left, 7, 1) && session.is_hole(View::Left, 8, 1));
     assert!(!session.is_hole(View::Left, 6, 1) && !session.is_hole(View::Left, 8, 0) && !session.is_hole(View::Right, 8, 1));

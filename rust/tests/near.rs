@@ -7,7 +7,7 @@ use luphwezane::{render, Block, Pictures, Report, Session, Settings, View};
 use paper::{reversed, Drawing, LeftRow, Pixel};
 use std::collections::BTreeSet;
 
-const TEXTURE: [u8; 8] = [10, 20, 30, 40, 50, 60, 70, 80];
+const TEXTURE: [u16; 8] = [10, 20, 30, 40, 50, 60, 70, 80];
 
 /// Entry d is d.
 fn table() -> [u16; 256] {
@@ -21,7 +21,7 @@ fn settings(view: View, w: usize, table: [u16; 256]) -> Settings {
 }
 
 /// A row as it is stored.
-fn stored(view: View, row: &[u8]) -> Vec<u8> {
+fn stored<T: Copy>(view: View, row: &[T]) -> Vec<T> {
     if view == View::Left {
         row.to_vec()
     } else {
@@ -42,16 +42,16 @@ fn rows(w: usize, values: &[u8]) -> impl Iterator<Item = Vec<u8>> + '_ {
 }
 
 /// Samples, marks and front depths of a row, drawn by the library and by the independent renderer.
-fn drawn(view: View, depths: &[u8]) -> [Vec<u8>; 3] {
+fn drawn(view: View, depths: &[u8]) -> [Vec<u16>; 3] {
     let (w, table) = (depths.len(), table());
     let (texture, depths) = (stored(view, &TEXTURE[..w]), stored(view, depths));
     let row = render(&settings(view, w, table), view, &texture, &depths).expect("RENDER accepts it");
     let pixels = paper::drawn_row(&table, view as usize, &texture, &depths).pixels;
-    let of = |part: fn(&Pixel) -> u8| pixels.iter().map(part).collect::<Vec<u8>>();
-    let (samples, marks, fronts) = (of(|x| x.sample), of(|x| x.mark), of(|x| x.front));
+    let of = |part: fn(&Pixel) -> u16| pixels.iter().map(part).collect::<Vec<u16>>();
+    let (samples, marks, fronts) = (of(|x| x.sample), of(|x| x.mark.into()), of(|x| x.front.into()));
     assert_eq!(row.samples, samples, "{view:?}, {depths:?}");
-    assert_eq!(row.marks, paper::packed(marks.iter().copied()), "{view:?}, {depths:?}");
-    assert_eq!(row.fronts, fronts, "{view:?}, {depths:?}");
+    assert_eq!(row.marks, paper::packed(pixels.iter().map(|x| x.mark)), "{view:?}, {depths:?}");
+    assert_eq!(row.fronts, pixels.iter().map(|x| x.front).collect::<Vec<_>>(), "{view:?}, {depths:?}");
     [samples, marks, fronts].map(|row| stored(view, &row))
 }
 
@@ -134,11 +134,11 @@ fn rows_by_hand() {
 struct Stage {
     view: View,
     settings: Settings,
-    texture: Vec<u8>,
+    texture: Vec<u16>,
 }
 
 impl Stage {
-    fn new(view: View, table: [u16; 256], texture: &[u8]) -> Stage {
+    fn new(view: View, table: [u16; 256], texture: &[u16]) -> Stage {
         Stage { view, settings: settings(view, texture.len(), table), texture: stored(view, texture) }
     }
 
@@ -238,7 +238,7 @@ fn every_small_edit() {
 #[test]
 fn farthest_columns() {
     let (w, table) = (530, std::array::from_fn(|d| [0, 3, 1019, 1023][d.min(3)]));
-    let texture: Vec<u8> = (0..w).map(|c| (7 * c % 251) as u8).collect();
+    let texture: Vec<u16> = (0..w).map(|c| (29 * c % 1021) as u16).collect();
     let mut reached = BTreeSet::new();
     for (view, near) in View::BOTH.into_iter().flat_map(|view| [256, 257, 300, 511, 528].map(|near| (view, near))) {
         let (stage, p) = (Stage::new(view, table, &texture), near - 256);

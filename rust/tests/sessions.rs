@@ -8,7 +8,7 @@
 mod paper;
 mod random;
 
-use luphwezane::{lent, Block, Planes, Refusal, Report, Session, Settings, View};
+use luphwezane::{lent, Block, Pictures, Planes, Refusal, Report, Session, Settings, View};
 use paper::Drawing;
 use random::{Guarded, GuardedPlanes, Random, Scene};
 
@@ -227,12 +227,13 @@ impl Run {
             let texture = &self.scene.textures[view as usize][y * w..(y + 1) * w];
             let depths = &self.record[view as usize][y * w..(y + 1) * w];
             let drawn = paper::drawn_row(paper::table(&settings, view as usize), view as usize, texture, depths);
-            let mut outputs = [w, paper::mark_bytes(w), w].map(|n| Guarded::new(&random.bytes(n), 0x5a));
-            let [samples, marks, fronts] = outputs.each_mut().map(Guarded::entries_mut);
-            assert_eq!(lent::render(&settings, view as u32, texture, depths, samples, marks, fronts), Ok(()));
-            assert!(outputs.iter().all(Guarded::is_intact), "a guard was written");
+            let mut samples = Guarded::new(&random.entries(w), 0x5a5a);
+            let mut bytes = [paper::mark_bytes(w), w].map(|n| Guarded::new(&random.bytes(n), 0x5a));
+            let [marks, fronts] = bytes.each_mut().map(Guarded::entries_mut);
+            assert_eq!(lent::render(&settings, view as u32, texture, depths, samples.entries_mut(), marks, fronts), Ok(()));
+            assert!(samples.is_intact() && bytes.iter().all(Guarded::is_intact), "a guard was written");
             let row = luphwezane::render(&settings, view, texture, depths).expect("RENDER accepts it too");
-            let [samples, marks, fronts] = outputs.each_ref().map(Guarded::entries);
+            let (samples, [marks, fronts]) = (samples.entries(), bytes.each_ref().map(Guarded::entries));
             assert_eq!((samples, marks, fronts), (&row.samples[..], &row.marks[..], &row.fronts[..]));
             assert_eq!(samples, drawn.pixels.iter().map(|x| x.sample).collect::<Vec<_>>());
             assert_eq!(marks, paper::packed(drawn.pixels.iter().map(|x| x.mark)));
@@ -244,21 +245,42 @@ impl Run {
 /// One held entry, or the total, made different.
 fn damage(random: &mut Random, planes: &mut GuardedPlanes, settings: &mut Settings) {
     let v = random.between(0, 1);
-    let bytes = match random.between(0, 6) {
-        0 => return settings.total = settings.total.wrapping_add(random.next()),
-        1 => {
-            let limits = planes.limits[v].entries_mut();
-            let at = random.between(0, limits.len() - 1);
-            return limits[at] ^= 1 << random.between(0, 15);
-        }
-        2 => &mut planes.samples[v],
-        3 => &mut planes.fronts[v],
-        4 => &mut planes.combined,
-        _ => &mut planes.marks[v],
-    };
-    let bytes = bytes.entries_mut();
-    let at = random.between(0, bytes.len() - 1);
-    bytes[at] ^= 1 << random.between(0, 7);
+    match random.between(0, 6) {
+        0 => settings.total = settings.total.wrapping_add(random.next()),
+        1 => *any(random, &mut planes.limits[v]) ^= 1 << random.between(0, 15),
+        2 => *any(random, &mut planes.samples[v]) ^= 1 << random.between(0, 15),
+        3 => *any(random, &mut planes.fronts[v]) ^= 1 << random.between(0, 7),
+        4 => *any(random, &mut planes.combined) ^= 1 << random.between(0, 15),
+        _ => *any(random, &mut planes.marks[v]) ^= 1 << random.between(0, 7),
+    }
+}
+
+fn any<'a, T: Copy + PartialEq>(random: &mut Random, plane: &'a mut Guarded<T>) -> &'a mut T {
+    let entries = plane.entries_mut();
+    &mut entries[random.between(0, entries.len() - 1)]
+}
+
+/// OPEN of pictures of which one has a higher entry, with perhaps something before it that is refused: nothing is written.
+fn refused_open(random: &mut Random, scene: &Scene) {
+    let (w, h) = (scene.settings.w as usize, scene.settings.h as usize);
+    let mut settings = scene.settings;
+    let mut pictures = [&scene.textures[0], &scene.textures[1], &scene.reference].map(Vec::clone);
+    pictures[random.between(0, 2)][random.between(0, w * h - 1)] = random.high();
+    match random.between(0, 9) {
+        0 => settings.share = random.pick(&[65, 255]),
+        1 => settings.left[random.between(0, 255)] = 1024,
+        2 => settings.right[random.between(0, 255)] = 65535,
+        3 => drop(pictures[random.between(0, 2)].pop()),
+        4 => settings.h = 4097,
+        _ => (),
+    }
+    let pictures = Pictures { textures: [&pictures[0], &pictures[1]], reference: &pictures[2] };
+    let mut planes = GuardedPlanes::new(random, w, h, scene.depths());
+    let refusal = Refusal::from_number(paper::open_number(&settings, &pictures, &planes.shared())).expect("OPEN is to be refused");
+    let before = (settings, planes.clone());
+    assert_eq!(lent::open(&mut settings, &pictures, &mut planes.lent()), Err(refusal));
+    assert!((settings, planes) == before, "a refused OPEN wrote");
+    assert_eq!(Session::open(&settings, &pictures, scene.depths()).map(|_| ()), Err(refusal));
 }
 
 /// Shares and tolerances take all their values in turn.
@@ -267,6 +289,7 @@ fn random_sessions() {
     random::sessions("sessions", 6000, |random, number| {
         let scene = Scene::new(random, (number % 65) as u8, (number % 256) as u8);
         let calls = if scene.reference.len() < 2000 { random.between(2, 16) } else { 3 };
+        refused_open(random, &scene);
         let mut run = Run::open(random, scene);
         run.rendered(random);
         for _ in 0..calls {

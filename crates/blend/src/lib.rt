@@ -11,14 +11,14 @@ fn blend_at(
     right: bool,
     share: u8,
     tolerance: u8,
-    samples: &[u8],
+    samples: &[u16],
     fronts: &[u8],
     marks: &[u8],
-    samples2: &[u8],
+    samples2: &[u16],
     fronts2: &[u8],
     marks2: &[u8],
     i: usize,
-) -> u8
+) -> u16
     requires { ⌜ share ≤ 64 ⌝ }
     requires { ⌜ (Reaches (i + 1) (now samples) (now fronts) (now marks)) × (Reaches (i + 1) (now samples2) (now fronts2) (now marks2)) ⌝ }
     ensures { λ r. ⌜ r ≡ paired right share tolerance (heldPixel (now (samples .entry)) (now (fronts .entry)) (now (marks .entry)) i) (heldPixel (now (samples2 .entry)) (now (fronts2 .entry)) (now (marks2 .entry)) i) ⌝ }
@@ -33,14 +33,14 @@ pub fn blend_part(
     right: bool,
     share: u8,
     tolerance: u8,
-    samples: &[u8],
+    samples: &[u16],
     fronts: &[u8],
     marks: &[u8],
-    samples2: &[u8],
+    samples2: &[u16],
     fronts2: &[u8],
     marks2: &[u8],
     from: usize,
-    part: &mut [u8],
+    part: &mut [u16],
 )
     requires { ⌜ share ≤ 64 ⌝ }
     requires { ⌜ (Reaches (from + length (now part)) (now samples) (now fronts) (now marks)) × (Reaches (from + length (now part)) (now samples2) (now fronts2) (now marks2)) ⌝ }

@@ -11,7 +11,7 @@ use Rattle.model.specs.declared.Block.{Block}
 use Rattle.model.specs.declared.Report.{Report}
 use Rattle.model.specs.declared.Report.the-variants.{Sound, Difference, Total}
 use Rattle.model.specs.Lists.{listOf, listFrom, rows, rowOf, sumTo}
-use Rattle.model.specs.Row.{Row, line, place, least, limit, owner, kindOf, stepOf, taps1, taps2, taps3, repeated, weighted, filtered, mixed, smoothPixel, tornPixel, lastPixel, pairPixel, ownedPixel, placedAt, nearEdge, shownPixel, pixelAt, limitAt, leftRow}
+use Rattle.model.specs.Row.{Row, line, place, least, limit, owner, kindOf, stepOf, taps1, taps2, taps3, repeated, sampleIn, read, weighted, filtered, mixed, smoothPixel, tornPixel, lastPixel, pairPixel, ownedPixel, placedAt, nearEdge, shownPixel, pixelAt, limitAt, leftRow}
 use Rattle.model.specs.Views.{seen, viewRow, entryOf}
 use Rattle.model.specs.Marks.{packByte, packRow, rowHoles, holesIn}
 use Rattle.model.specs.Combined.{shared, bothShown, bothHoles, combinedOf, squareError}
@@ -42,27 +42,38 @@ holes-two-rows : holesIn (245 ∷ 10 ∷ []) 4 2 ≡ 4
 unfolding holesIn rowHoles rowOf sumTo
 holes-two-rows = refl
 
--- ---- the filters: k of 1, 2 and 3 in both views, in a row where sums fall below 0 and rise above 255, and in one with both ends repeated
+-- ---- the filters: k of 1, 2 and 3 in both views, in a row where sums fall below 0 and rise above 1,023, in one of eight bits whose sums rise above
+-- 255 and stay, and in one with both ends repeated; and a row with higher entries, which are read as 1,023
 
 shown : Bool → List ℕ → ℕ → List ℕ
 shown right texture d = viewRow right (line identity texture (listOf (λ i. d) (length texture))) .samples
 
 edge : List ℕ
-edge = 0 ∷ 0 ∷ 255 ∷ 255 ∷ 0 ∷ 0 ∷ []
+edge = 0 ∷ 0 ∷ 1023 ∷ 1023 ∷ 0 ∷ 0 ∷ []
+
+eight : List ℕ
+eight = 0 ∷ 0 ∷ 255 ∷ 255 ∷ 0 ∷ 0 ∷ []
+
+higher : List ℕ
+higher = 0 ∷ 0 ∷ 2000 ∷ 1024 ∷ 0 ∷ 0 ∷ []
 
 pair : List ℕ
 pair = 0 ∷ 255 ∷ []
 
 filters :
-    (shown false edge 1 ≡ 0 ∷ 48 ∷ 255 ∷ 191 ∷ 0 ∷ 0 ∷ [])
-    × (shown true edge 1 ≡ 0 ∷ 0 ∷ 191 ∷ 255 ∷ 48 ∷ 0 ∷ [])
-    × (shown false edge 2 ≡ 0 ∷ 116 ∷ 255 ∷ 116 ∷ 0 ∷ 0 ∷ [])
-    × (shown false edge 3 ≡ 0 ∷ 191 ∷ 255 ∷ 48 ∷ 0 ∷ 0 ∷ [])
+    (shown false edge 1 ≡ 0 ∷ 192 ∷ 1023 ∷ 767 ∷ 0 ∷ 0 ∷ [])
+    × (shown true edge 1 ≡ 0 ∷ 0 ∷ 767 ∷ 1023 ∷ 192 ∷ 0 ∷ [])
+    × (shown false edge 2 ≡ 0 ∷ 464 ∷ 1023 ∷ 464 ∷ 0 ∷ 0 ∷ [])
+    × (shown false edge 3 ≡ 0 ∷ 767 ∷ 1023 ∷ 192 ∷ 0 ∷ 0 ∷ [])
+    × (shown false eight 1 ≡ 0 ∷ 48 ∷ 299 ∷ 191 ∷ 0 ∷ 0 ∷ [])
+    × (shown false eight 2 ≡ 0 ∷ 116 ∷ 319 ∷ 116 ∷ 0 ∷ 0 ∷ [])
     × (shown false pair 1 ≡ 52 ∷ 255 ∷ [])
     × (shown false pair 2 ≡ 128 ∷ 255 ∷ [])
     × (shown true pair 3 ≡ 0 ∷ 52 ∷ [])
-unfolding shown edge pair viewRow seen leftRow limitAt pixelAt shownPixel nearEdge placedAt ownedPixel pairPixel lastPixel tornPixel smoothPixel mixed filtered weighted repeated taps1 taps2 taps3 stepOf kindOf owner limit least place listFrom identity
-filters = (refl, refl, refl, refl, refl, refl, refl)
+    × (shown false higher 1 ≡ 0 ∷ 192 ∷ 1023 ∷ 767 ∷ 0 ∷ 0 ∷ [])
+    × (shown false higher 4 ≡ 0 ∷ 1023 ∷ 1023 ∷ 0 ∷ 0 ∷ 0 ∷ [])
+unfolding shown edge eight higher pair viewRow seen leftRow limitAt pixelAt shownPixel nearEdge placedAt ownedPixel pairPixel lastPixel tornPixel smoothPixel mixed filtered weighted repeated sampleIn read taps1 taps2 taps3 stepOf kindOf owner limit least place listFrom identity
+filters = (refl, refl, refl, refl, refl, refl, refl, refl, refl, refl, refl)
 
 -- ---- near edges: of two columns placed at 5 position 1 shows the greater, and its own owner where the place of the column after that is 5 too, or
 -- where the limit is 6; where it would show a torn pair's hole it shows the edge, and no hole
@@ -79,7 +90,7 @@ edges :
     × (near (0 ∷ 0 ∷ 0 ∷ 6 ∷ 0 ∷ 0 ∷ []) .samples ≡ 10 ∷ 20 ∷ 50 ∷ 50 ∷ 50 ∷ 60 ∷ [])
     × (near (0 ∷ 5 ∷ 0 ∷ 7 ∷ 0 ∷ 0 ∷ []) .samples ≡ 20 ∷ 40 ∷ 50 ∷ 50 ∷ 50 ∷ 60 ∷ [])
     × (near (0 ∷ 5 ∷ 0 ∷ 7 ∷ 0 ∷ 0 ∷ []) .marks ≡ 0 ∷ 0 ∷ 1 ∷ 1 ∷ 0 ∷ 0 ∷ [])
-unfolding near six viewRow seen leftRow limitAt pixelAt shownPixel nearEdge placedAt ownedPixel pairPixel lastPixel tornPixel smoothPixel mixed filtered weighted repeated taps1 taps2 taps3 stepOf kindOf owner limit least place listFrom identity
+unfolding near six viewRow seen leftRow limitAt pixelAt shownPixel nearEdge placedAt ownedPixel pairPixel lastPixel tornPixel smoothPixel mixed filtered weighted repeated sampleIn read taps1 taps2 taps3 stepOf kindOf owner limit least place listFrom identity
 edges = (refl, refl, refl, refl, refl)
 
 -- ---- spans: column 2 from depth 0 to 4 spans from a quarter before the place of column 1 to the limit of column 3; to depth 7 from a quarter before
@@ -127,5 +138,5 @@ reports :
     × (report settings (0 ∷ []) (10 ∷ 21 ∷ 30 ∷ 41 ∷ []) ≡ Difference 0 1)
     × (report settings (16 ∷ []) four ≡ Difference 0 3)
     × (report (withTotal settings 1) (0 ∷ []) four ≡ Total)
-unfolding report reportOf firstDifference firstBad sameAt sameView sameMark fresh freshView freshRow freshSample freshCombined totalOf freshTotal viewRow seen leftRow limitAt pixelAt shownPixel nearEdge placedAt ownedPixel pairPixel lastPixel tornPixel smoothPixel mixed filtered weighted repeated taps1 taps2 taps3 stepOf kindOf owner limit least place listFrom rows rowOf sumTo packRow packByte shared bothShown bothHoles combinedOf squareError settings opening images four identity
+unfolding report reportOf firstDifference firstBad sameAt sameView sameMark fresh freshView freshRow freshSample freshCombined totalOf freshTotal viewRow seen leftRow limitAt pixelAt shownPixel nearEdge placedAt ownedPixel pairPixel lastPixel tornPixel smoothPixel mixed filtered weighted repeated sampleIn read taps1 taps2 taps3 stepOf kindOf owner limit least place listFrom rows rowOf sumTo packRow packByte shared bothShown bothHoles combinedOf squareError settings opening images four identity
 reports = (refl, refl, refl, refl)

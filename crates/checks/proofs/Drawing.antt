@@ -15,6 +15,7 @@ use lib.Seq.{getD-take, take-take}
 use lib.IntN.{ℤ, pos}
 use Rattle.model.specs.declared.Settings.{Settings}
 use Rattle.model.specs.Lists.{rowOf}
+use Rattle.model.specs.Row.{read, sampleIn}
 use Rattle.model.specs.Marks.{markBytes, markAt}
 use Rattle.model.specs.Combined.{combinedOf, squareError}
 use Rattle.model.specs.Planes.{Pictures, Depths, View, Held, viewRows, tableOf, textureOf, depthsOf}
@@ -22,7 +23,7 @@ use Rattle.model.specs.Fresh.{freshRow, freshView, shownAt, freshSample, freshC
 use Rattle.model.specs.Reports.{sameView, sameAt}
 use Rattle.model.proofs.Lists.{getD-row, getD-listOf}
 use Rattle.model.proofs.Fresh.{DepthsSized, row-fresh-samples, row-fresh-fronts, row-fresh-limits, row-fresh-marks, mark-fresh, row-fresh-combined}
-use Rattle.model.proofs.Totals.{errorAt}
+use Rattle.model.proofs.Totals.{read-same, errorAt, shown-most}
 use Rattle.marks.specs.Puts.{heldPixel}
 use Rattle.planes.proofs.Splices.{part-row, part-length}
 use Rattle.draw.specs.Drawn.{PlanesIn, drawnRow}
@@ -112,10 +113,11 @@ module _ (s : Settings) (p : Pictures) (d : Depths) (sized : DepthsSized s d) (y
 
     -- what the drawn rows show at column x is what the fresh row shows there
     pixel-fresh : heldPixel (v .samples) (v .fronts) (v .marks) x ≡ shownAt (freshRow s p d right y) x
-    unfolding heldPixel drawnRow freshRow
+    unfolding heldPixel sampleIn drawnRow freshRow
     pixel-fresh =
-        let a : getD (v .samples) x 0 ≡ getD (freshRow s p d right y .samples) x 0 =
-        sym (front-entry 0 (v .samples) (s .w) x lx) ∙ ap (λ (r : View). getD (r .samples) x 0) is in
+        let a : read (getD (v .samples) x 0) ≡ getD (freshRow s p d right y .samples) x 0 =
+        ap read (sym (front-entry 0 (v .samples) (s .w) x lx) ∙ ap (λ (r : View). getD (r .samples) x 0) is)
+        ∙ read-same (getD (freshRow s p d right y .samples) x 0) (shown-most s p d sized right y x ly lx) in
         let b : getD (v .fronts) x 0 ≡ getD (freshRow s p d right y .fronts) x 0 =
         sym (front-entry 0 (v .fronts) (s .w) x lx) ∙ ap (λ (r : View). getD (r .fronts) x 0) is in
         rw (a, mark-shown, b)
@@ -151,6 +153,6 @@ seen-at s p d h y x shown same v0 v1 sized ly lx is0 is1 e f =
     }
 
 -- its squared error
-pub error-is : (s : Settings) (p : Pictures) (d : Depths) (y x shown e : ℕ) → shown ≡ freshSample s p d y x → e ≡ squareError shown (getD (p .reference) (y * s .w + x) 0) → e ≡ errorAt s p d y x
+pub error-is : (s : Settings) (p : Pictures) (d : Depths) (y x shown e : ℕ) → shown ≡ freshSample s p d y x → e ≡ squareError shown (sampleIn (p .reference) (y * s .w + x)) → e ≡ errorAt s p d y x
 unfolding errorAt
-error-is s p d y x shown e f q = q ∙ ap (λ (n : ℕ). squareError n (getD (p .reference) (y * s .w + x) 0)) f
+error-is s p d y x shown e f q = q ∙ ap (λ (n : ℕ). squareError n (sampleIn (p .reference) (y * s .w + x))) f

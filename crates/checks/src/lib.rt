@@ -48,9 +48,9 @@ fn draw_front(
     table: &[u16; 256],
     w: usize,
     y: usize,
-    texture: &[u8],
+    texture: &[u16],
     depths: &[u8],
-    samples: &mut [u8; 4096],
+    samples: &mut [u16; 4096],
     fronts: &mut [u8; 4096],
     limits: &mut [i16; 4096],
     marks: &mut [u8; 512],
@@ -86,21 +86,21 @@ fn walk(
     rightTable: &[u16; 256],
     share: u8,
     tolerance: u8,
-    squares: &[u16; 256],
-    left: &[u8],
-    right: &[u8],
-    reference: &[u8],
+    squares: &[u32; 1024],
+    left: &[u16],
+    right: &[u16],
+    reference: &[u16],
     leftDepths: &[u8],
     rightDepths: &[u8],
-    leftSamples: &[u8],
+    leftSamples: &[u16],
     leftFronts: &[u8],
     leftLimits: &[i16],
     leftMarks: &[u8],
-    rightSamples: &[u8],
+    rightSamples: &[u16],
     rightFronts: &[u8],
     rightLimits: &[i16],
     rightMarks: &[u8],
-    combined: &[u8],
+    combined: &[u16],
 ) -> Found
     requires { ⌜ Squares (now squares) ⌝ }
     requires { ⌜ checkNumber (settingsOf w h (now leftTable) (now rightTable) share tolerance)
@@ -116,11 +116,11 @@ fn walk(
         (view (now (rightSamples .entry)) (now (rightFronts .entry)) (now (rightLimits .entry)) (now (rightMarks .entry)))
         (now (combined .entry))) r ⌝ }
 {
-    let mut samples0 = [0u8; 4096];
+    let mut samples0 = [0u16; 4096];
     let mut fronts0 = [0u8; 4096];
     let mut limits0 = [0i16; 4096];
     let mut marks0 = [0u8; 512];
-    let mut samples1 = [0u8; 4096];
+    let mut samples1 = [0u16; 4096];
     let mut fronts1 = [0u8; 4096];
     let mut limits1 = [0i16; 4096];
     let mut marks1 = [0u8; 512];
@@ -194,7 +194,11 @@ fn walk(
                 };
                 break 'rows;
             }
-            sum += sums::square_error(squares, shown, reference[y * w + x]) as u64;
+            sum += sums::square_error(
+                squares,
+                shown,
+                model::sample_in(reference, y * w + x),
+            ) as u64;
             x += 1;
         }
         y += 1;
@@ -205,20 +209,20 @@ fn walk(
 // Compares every held entry with a fresh drawing, then the total.
 pub fn check(
     settings: Settings,
-    left: &[u8],
-    right: &[u8],
-    reference: &[u8],
+    left: &[u16],
+    right: &[u16],
+    reference: &[u16],
     leftDepths: &[u8],
     rightDepths: &[u8],
-    leftSamples: &[u8],
+    leftSamples: &[u16],
     leftFronts: &[u8],
     leftLimits: &[i16],
     leftMarks: &[u8],
-    rightSamples: &[u8],
+    rightSamples: &[u16],
     rightFronts: &[u8],
     rightLimits: &[i16],
     rightMarks: &[u8],
-    combined: &[u8],
+    combined: &[u16],
 ) -> Report
     ensures { λ r. ⌜ CheckPost settings
         (pictures (now (left .entry)) (now (right .entry)) (now (reference .entry)))

@@ -11,14 +11,19 @@ use lib.ListN.{length, getD, take, drop}
 use lib.IntN.{ℤ}
 use Rattle.model.specs.declared.Pixel.{Pixel}
 use Rattle.model.specs.Lists.{rowOf}
-use Rattle.model.specs.Planes.{View, view, viewRows}
+use Rattle.model.specs.Row.{greatest}
+use Rattle.model.specs.Planes.{View, view, readAll, viewRows}
 use Rattle.model.specs.Marks.{markBytes}
 use Rattle.model.proofs.Choice.{lt-or-le}
 use Rattle.model.proofs.Lists.{length-listOf, getD-listOf, list-of, length-row}
-use Rattle.planes.specs.Parts.{splice}
+use Rattle.model.proofs.Readings.{length-readAll}
+use Rattle.planes.specs.Parts.{splice, Low}
+use Rattle.planes.proofs.Read.{read-put, low-list, low-splice}
 use Rattle.planes.proofs.Splices.{length-splice, splice-under, splice-inside, splice-beyond, row-splice, row-other, part-row, part-length}
 use Rattle.marks.specs.Puts.{heldPixel}
+use Rattle.marks.proofs.Held.{held-most}
 use Rattle.sums.specs.Sides.{paired}
+use Rattle.sums.proofs.Sides.{paired-most}
 use Rattle.blend.specs.Blend.{Reaches, combinedPart}
 use Rattle.commit.specs.Commit.{RowIn, SoundRow, RowCommitted, heldAt, heldIn}
 use Rattle.commit.proofs.Planes.{same-row}
@@ -36,6 +41,11 @@ module _ (right : Bool) (share tolerance : ℕ) (own other : ℕ → Pixel) wher
   row-at : (w i : ℕ) → i < w → getD (combinedRow right share tolerance own other w) i 0 ≡ paired right share tolerance (own i) (other i)
   unfolding combinedRow
   row-at w i h = getD-listOf 0 (λ j. paired right share tolerance (own j) (other j)) w i h
+
+  module _ (most : share ≤ 64) (owns : (i : ℕ) → own i .sample ≤ greatest) (others : (i : ℕ) → other i .sample ≤ greatest) where
+    low-part : (from n : ℕ) → Low (combinedPart right share tolerance own other from n)
+    unfolding combinedPart
+    low-part from n = low-list _ n (λ i. paired-most right share tolerance (own (from + i)) (other (from + i)) most (owns (from + i)) (others (from + i)))
 
   row-of : (w : ℕ) (c : List ℕ) → length c ≡ w → ((i : ℕ) → i < w → getD c i 0 ≡ paired right share tolerance (own i) (other i)) → c ≡ combinedRow right share tolerance own other w
   unfolding combinedRow
@@ -104,21 +114,26 @@ combined-again right share tolerance w from to old new other c o k lc kept was =
     outer : (i : ℕ) → to ≤ i → from + (to - from) ≤ i
     outer i b = omega arith
 
-module _ (right : Bool) (t : List ℕ) (share tolerance w y x from to : ℕ) (texture candidate s₂ f₂ m₂ d d′ : List ℕ) (v v′ : View) (c c′ : List ℕ) (within : y * w + w ≤ length c) (done : RowCommitted right t texture w y x candidate d d′ v v′ from to) (put : c′ ≡ splice c (y * w + from) (combinedPart right share tolerance (heldIn w v′ y) (heldAt w s₂ f₂ m₂ y) from (to - from))) where
+module _ (right : Bool) (t : List ℕ) (share tolerance w y x from to : ℕ) (texture candidate s₂ f₂ m₂ d d′ : List ℕ) (v v′ : View) (c c′ : List ℕ) (most : share ≤ 64) (within : y * w + w ≤ length c) (done : RowCommitted right t texture w y x candidate d d′ v v′ from to) (put : c′ ≡ splice c (y * w + from) (combinedPart right share tolerance (heldIn w v′ y) (heldAt w s₂ f₂ m₂ y) from (to - from))) where
   fit : from + length (combinedPart right share tolerance (heldIn w v′ y) (heldAt w s₂ f₂ m₂ y) from (to - from)) ≤ w
   fit =
       rw (length-part right share tolerance (heldIn w v′ y) (heldAt w s₂ f₂ m₂ y) from (to - from)) (inside from to w (done .order) (done .within))
 
+  low : Low (combinedPart right share tolerance (heldIn w v′ y) (heldAt w s₂ f₂ m₂ y) from (to - from))
+  low =
+      low-part right share tolerance (heldIn w v′ y) (heldAt w s₂ f₂ m₂ y) most (λ i. held-most _ _ _ i) (λ i. held-most _ _ _ i) from (to - from)
+
   Again : ℕ → Type 0
   Again k =
-      SoundRow right t texture w d v k → rowOf c w k ≡ combinedRow right share tolerance (heldIn w v k) (heldAt w s₂ f₂ m₂ k) w → rowOf c′ w k ≡ combinedRow right share tolerance (heldIn w v′ k) (heldAt w s₂ f₂ m₂ k) w
+      SoundRow right t texture w d v k → readAll (rowOf c w k) ≡ combinedRow right share tolerance (heldIn w v k) (heldAt w s₂ f₂ m₂ k) w → readAll (rowOf c′ w k) ≡ combinedRow right share tolerance (heldIn w v′ k) (heldAt w s₂ f₂ m₂ k) w
 
   here : Again y
   unfolding Again
   here s was =
-      ap (λ (l : List ℕ). rowOf l w y) put ∙ row-splice 0 c w y from _ within fit
-      ∙ combined-again right share tolerance w from to (heldIn w v y) (heldIn w v′ y) (heldAt w s₂ f₂ m₂ y) (rowOf c w y) (done .order) (done .within)
-      (length-row c w y within) (done .kept s) was
+      ap (λ (l : List ℕ). readAll (rowOf l w y)) put ∙ ap readAll (row-splice 0 c w y from _ within fit)
+      ∙ read-put (rowOf c w y) from _ (rw (length-row c w y within) fit) low
+      ∙ combined-again right share tolerance w from to (heldIn w v y) (heldIn w v′ y) (heldAt w s₂ f₂ m₂ y) (readAll (rowOf c w y)) (done .order) (done .within)
+      (length-readAll (rowOf c w y) ∙ length-row c w y within) (done .kept s) was
 
   kept-combined : (k : ℕ) → (k ≡ y → ⊥) → rowOf c′ w k ≡ rowOf c w k
   kept-combined k ne = ap (λ (l : List ℕ). rowOf l w k) put ∙ row-other 0 c w y k from _ within fit ne
@@ -127,7 +142,7 @@ module _ (right : Bool) (t : List ℕ) (share tolerance w y x from to : ℕ) (te
   unfolding Again
   elsewhere k ne s was =
       let same : viewRows w v k ≡ viewRows w v′ k = sym (done .others k ne) in
-      kept-combined k ne ∙ was
+      ap readAll (kept-combined k ne) ∙ was
       ∙ ap (λ (q : View). combinedRow right share tolerance (heldPixel (q .samples) (q .fronts) (q .marks)) (heldAt w s₂ f₂ m₂ k) w) same
 
   again : (k : ℕ) → Again k
@@ -142,4 +157,6 @@ module _ (right : Bool) (t : List ℕ) (share tolerance w y x from to : ℕ) (te
         combined = again;
         others = done .others;
         others-combined = kept-combined;
+        low = done .low;
+        low-combined = λ l. rw put (low-splice c (y * w + from) _ (omega (arith, fit, within)) l low);
       }

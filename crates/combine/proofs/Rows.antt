@@ -16,12 +16,12 @@ use borrow.Author.Tests.{leb-false, ltb-false}
 use Rattle.model.specs.declared.Block.{Block}
 use Rattle.model.specs.Lists.{rowOf}
 use Rattle.model.specs.Marks.{markBytes}
-use Rattle.model.specs.Planes.{View, view, viewRows}
+use Rattle.model.specs.Planes.{View, view, viewRows, readAll}
 use Rattle.model.specs.Blocks.{inRows, writtenPlane}
 use Rattle.model.proofs.Choice.{lt-or-le, and-false}
 use Rattle.model.proofs.Lists.{rows-apart, length-row, plane-ext}
 use Rattle.model.proofs.Written.{length-written, rows-under, rows-beyond, written-row-out, written-row-in}
-use Rattle.planes.specs.Parts.{splice}
+use Rattle.planes.specs.Parts.{splice, Low}
 use Rattle.planes.proofs.Splices.{row-splice, row-other}
 use Rattle.commit.specs.Commit.{Sized, SoundRow, heldAt, heldIn}
 use Rattle.commit.proofs.Planes.{same-row}
@@ -48,9 +48,11 @@ pub record Through (right : Bool) (t : List ℕ) (share tolerance w h : ℕ) (b 
   pub written : (k : ℕ) → b .row ≤ k → k < b .row + j → rowOf d w k ≡ rowOf (writtenPlane w b candidate d₀) w k
   pub unwritten : (k : ℕ) → (k < b .row) ⊎ (b .row + j ≤ k) → rowOf d w k ≡ rowOf d₀ w k
   pub sound : (k : ℕ) → SoundRow right t texture w d₀ v₀ k → SoundRow right t texture w d v k
-  pub combined : (k : ℕ) → SoundRow right t texture w d₀ v₀ k → rowOf c₀ w k ≡ combinedRow right share tolerance (heldIn w v₀ k) (heldAt w s₂ f₂ m₂ k) w → rowOf c w k ≡ combinedRow right share tolerance (heldIn w v k) (heldAt w s₂ f₂ m₂ k) w
+  pub combined : (k : ℕ) → SoundRow right t texture w d₀ v₀ k → readAll (rowOf c₀ w k) ≡ combinedRow right share tolerance (heldIn w v₀ k) (heldAt w s₂ f₂ m₂ k) w → readAll (rowOf c w k) ≡ combinedRow right share tolerance (heldIn w v k) (heldAt w s₂ f₂ m₂ k) w
   pub others : (k : ℕ) → (k < b .row) ⊎ (b .row + j ≤ k) → viewRows w v k ≡ viewRows w v₀ k
   pub others-combined : (k : ℕ) → (k < b .row) ⊎ (b .row + j ≤ k) → rowOf c w k ≡ rowOf c₀ w k
+  pub low : Low (v₀ .samples) → Low (v .samples)
+  pub low-combined : Low c₀ → Low c
 
 pub through-none : {right : Bool} {t : List ℕ} {share tolerance w h : ℕ} {b : Block} {texture candidate s₂ f₂ m₂ d : List ℕ} {v : View} {c : List ℕ} → Sized w h texture d v → OtherSized w h s₂ f₂ m₂ c → Through right t share tolerance w h b 0 texture candidate s₂ f₂ m₂ d d v v c c
 through-none s o =
@@ -64,6 +66,8 @@ through-none s o =
       combined = λ k h e. e;
       others = λ k h. refl;
       others-combined = λ k h. refl;
+      low = λ l. l;
+      low-combined = λ l. l;
     }
 
 module _ {right : Bool} {t : List ℕ} {share tolerance w h : ℕ} {b : Block} {j : ℕ} {texture candidate s₂ f₂ m₂ d₀ d d′ : List ℕ} {v₀ v v′ : View} {c₀ c c′ : List ℕ} (through : Through right t share tolerance w h b j texture candidate s₂ f₂ m₂ d₀ d v₀ v c₀ c) (block : BlockIn w h b candidate) (start : length d₀ ≡ w * h) (less : j < b .height) (set : RowSet right t share tolerance w (b .row + j) (b .column) texture (rowOf candidate (b .width) j) s₂ f₂ m₂ d d′ v v′ c c′) where
@@ -114,6 +118,8 @@ module _ {right : Bool} {t : List ℕ} {share tolerance w h : ℕ} {b : Block} {
         combined = λ k p e. set .combined k (through .sound k p) (through .combined k p e);
         others = λ k p. set .others k (other-one k p) ∙ through .others k (outer k p);
         others-combined = λ k p. set .others-combined k (other-one k p) ∙ through .others-combined k (outer k p);
+        low = λ l. set .low (through .low l);
+        low-combined = λ l. set .low-combined (through .low-combined l);
       }
     where
       earlier : (k : ℕ) → k < b .row + (j + 1) → (k ≡ b .row + j → ⊥) → k < b .row + j
@@ -144,6 +150,8 @@ module _ {right : Bool} {t : List ℕ} {share tolerance w h : ℕ} {b : Block} {
         combined = through .combined;
         others = λ k e. through .others k (rows-beside b k e);
         others-combined = λ k e. through .others-combined k (rows-beside b k e);
+        low = through .low;
+        low-combined = through .low-combined;
         size = through .size;
         other = through .other;
       }

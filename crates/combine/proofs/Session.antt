@@ -3,8 +3,9 @@
 --     own-sized                                       what set_block requires of the view's own planes, from what the refusals leave
 --     set-depths                                      the depths are the written ones
 --     set-untouched                                   whatever the planes hold, the other view and the rows outside the block are as they were
---     set-fresh                                       planes that were the fresh drawing are that of the written depths
-use Prim.Native.Nat.{ℕ, _<_}
+--     set-read, set-fresh                             planes that were the fresh drawing, as they are read or as they stand, are that of the written
+--                                                     depths
+use Prim.Native.Nat.{ℕ, _<_, _≤_}
 use mathlib.Core.Path.{_≡_, refl, sym, ap, _∙_}
 use mathlib.Core.Bool.{Bool, true, false, not}
 use mathlib.Core.List.{List}
@@ -17,17 +18,20 @@ use Rattle.model.specs.Lists.{listOf, rowOf}
 use Rattle.model.specs.Views.{isRight}
 use Rattle.model.specs.Marks.{markBytes}
 use Rattle.model.specs.Combined.{combinedOf}
-use Rattle.model.specs.Planes.{Pictures, Depths, View, Held, depths, held, tableOf, textureOf, depthsOf, viewOf, viewRows, heldRow}
+use Rattle.model.specs.Planes.{Pictures, Depths, View, Held, depths, held, tableOf, textureOf, depthsOf, viewOf, readAll, readView, readHeld, viewRows, heldRow}
 use Rattle.model.specs.Fresh.{freshRow, freshView, shownAt, freshSample, freshCombined, fresh}
 use Rattle.model.specs.Blocks.{inRows, writtenPlane, written}
 use Rattle.model.specs.Promises.{Untouched}
 use Rattle.model.proofs.Lists.{list-same, plane-ext}
-use Rattle.model.proofs.Fresh.{DepthsSized, row-fresh-samples, row-fresh-fronts, row-fresh-limits, row-fresh-marks, length-fresh-samples, length-fresh-fronts, length-fresh-limits, length-fresh-marks, mark-fresh, row-fresh-combined, length-fresh-combined, view-fresh}
+use Rattle.model.proofs.Fresh.{DepthsSized, row-fresh-samples, row-fresh-fronts, row-fresh-limits, row-fresh-marks, length-fresh-samples, length-fresh-fronts, length-fresh-limits, length-fresh-marks, row-fresh-combined, length-fresh-combined, view-fresh}
+use Rattle.model.proofs.Readings.{length-readAll, readAll-row, view-read, fresh-read}
 use Rattle.model.proofs.Written.{written-own, written-other}
 use Rattle.model.proofs.Locality.{sized-written}
 use Rattle.model.proofs.Refusals.{Common}
+use Rattle.planes.specs.Parts.{Low}
+use Rattle.planes.proofs.Read.{read-low, low-read}
 use Rattle.planes.proofs.Views.{view-same}
-use Rattle.marks.specs.Puts.{heldPixel}
+use Rattle.marks.proofs.Held.{held-fresh}
 use Rattle.sums.specs.Sides.{paired}
 use Rattle.commit.specs.Commit.{Sized, SoundRow, heldIn}
 use Rattle.combine.specs.Combine.{combinedRow, BlockSet}
@@ -88,39 +92,34 @@ unfolding paired
 paired-sides true share tolerance shown = refl
 paired-sides false share tolerance shown = refl
 
+-- planes that are, as they are read, a view's fresh ones
 module _ (s : Settings) (p : Pictures) (d : Depths) (sized : DepthsSized s d) where
-  -- the fresh planes are sound
-  fresh-sound : (r : Bool) (y : ℕ) → y < s .h → SoundRow r (tableOf s r) (textureOf p r) (s .w) (depthsOf d r) (freshView s p d r) y
+  -- they are sound
+  fresh-sound : (r : Bool) (x : View) → readView x ≡ freshView s p d r → (y : ℕ) → y < s .h → SoundRow r (tableOf s r) (textureOf p r) (s .w) (depthsOf d r) x y
   unfolding freshRow
-  fresh-sound r y k =
+  fresh-sound r x e y k =
       record {
-        samples = row-fresh-samples s p d sized r y k;
-        fronts = row-fresh-fronts s p d sized r y k;
-        limits = row-fresh-limits s p d sized r y k;
-        marks = row-fresh-marks s p d sized r y k;
+        samples = readAll-row (x .samples) (s .w) y ∙ ap (λ (u : View). rowOf (u .samples) (s .w) y) e ∙ row-fresh-samples s p d sized r y k;
+        fronts = ap (λ (u : View). rowOf (u .fronts) (s .w) y) e ∙ row-fresh-fronts s p d sized r y k;
+        limits = ap (λ (u : View). rowOf (u .limits) (s .w) y) e ∙ row-fresh-limits s p d sized r y k;
+        marks = ap (λ (u : View). rowOf (u .marks) (markBytes (s .w)) y) e ∙ row-fresh-marks s p d sized r y k;
       }
 
-  -- they hold what is shown
-  fresh-held : (r : Bool) (y x : ℕ) → y < s .h → x < s .w → heldIn (s .w) (freshView s p d r) y x ≡ shownAt (freshRow s p d r y) x
-  unfolding heldPixel
-  fresh-held r y x k l =
-      rw (row-fresh-samples s p d sized r y k, row-fresh-fronts s p d sized r y k, mark-fresh s p d sized r y x k l)
-
-  -- so what they hold combines to the fresh row
-  fresh-combined : (r : Bool) (y : ℕ) → y < s .h → combinedRow r (s .share) (s .tolerance) (heldIn (s .w) (freshView s p d r) y) (heldIn (s .w) (freshView s p d (not r)) y) (s .w) ≡ listOf (freshSample s p d y) (s .w)
+  -- two views of them combine to the fresh row
+  fresh-combined : (r : Bool) (a e : View) → readView a ≡ freshView s p d r → readView e ≡ freshView s p d (not r) → (y : ℕ) → y < s .h → combinedRow r (s .share) (s .tolerance) (heldIn (s .w) a y) (heldIn (s .w) e y) (s .w) ≡ listOf (freshSample s p d y) (s .w)
   unfolding combinedRow freshSample
-  fresh-combined r y k =
+  fresh-combined r a e ea ee y k =
       list-same 0 _ (freshSample s p d y) (s .w)
       (λ x l.
-      rw (fresh-held r y x k l, fresh-held (not r) y x k l)
+      rw (held-fresh s p d sized r a ea y x k l, held-fresh s p d sized (not r) e ee y x k l)
       (paired-sides r (s .share) (s .tolerance) (λ q. shownAt (freshRow s p d q y) x)))
 
-  -- sound planes are the fresh ones
-  sound-fresh : (r : Bool) (x : View) → Sized (s .w) (s .h) (textureOf p r) (depthsOf d r) x → ((y : ℕ) → y < s .h → SoundRow r (tableOf s r) (textureOf p r) (s .w) (depthsOf d r) x y) → x ≡ freshView s p d r
+  -- sound planes are, as they are read, the fresh ones
+  sound-fresh : (r : Bool) (x : View) → Sized (s .w) (s .h) (textureOf p r) (depthsOf d r) x → ((y : ℕ) → y < s .h → SoundRow r (tableOf s r) (textureOf p r) (s .w) (depthsOf d r) x y) → readView x ≡ freshView s p d r
   unfolding freshRow
   sound-fresh r x z sound =
       view-same
-      (plane-ext 0 (s .w) (s .h) _ _ (z .samples ∙ mul-comm (s .w) (s .h)) (length-fresh-samples s p d sized r ∙ mul-comm (s .w) (s .h)) (λ y k. sound y k .samples ∙ sym (row-fresh-samples s p d sized r y k)))
+      (plane-ext 0 (s .w) (s .h) _ _ (length-readAll (x .samples) ∙ z .samples ∙ mul-comm (s .w) (s .h)) (length-fresh-samples s p d sized r ∙ mul-comm (s .w) (s .h)) (λ y k. sym (readAll-row (x .samples) (s .w) y) ∙ sound y k .samples ∙ sym (row-fresh-samples s p d sized r y k)))
       (plane-ext 0 (s .w) (s .h) _ _ (z .fronts ∙ mul-comm (s .w) (s .h)) (length-fresh-fronts s p d sized r ∙ mul-comm (s .w) (s .h)) (λ y k. sound y k .fronts ∙ sym (row-fresh-fronts s p d sized r y k)))
       (plane-ext (pos 0) (s .w) (s .h) _ _ (z .limits ∙ mul-comm (s .w) (s .h)) (length-fresh-limits s p d sized r ∙ mul-comm (s .w) (s .h)) (λ y k. sound y k .limits ∙ sym (row-fresh-limits s p d sized r y k)))
       (plane-ext 0 (markBytes (s .w)) (s .h) _ _ (z .marks ∙ mul-comm (markBytes (s .w)) (s .h)) (length-fresh-marks s p d sized r ∙ mul-comm (markBytes (s .w)) (s .h)) (λ y k. sound y k .marks ∙ sym (row-fresh-marks s p d sized r y k)))
@@ -130,10 +129,26 @@ view-depths : (s : Settings) (p : Pictures) (d e : Depths) (r : Bool) → depths
 unfolding freshView freshRow
 view-depths s p d e r h = rw h
 
-fresh-by : (s : Settings) (p : Pictures) (e : Depths) (h : Held) (x : View) (c : List ℕ) (r : Bool) → x ≡ freshView s p e r → viewOf h (not r) ≡ freshView s p e (not r) → c ≡ freshCombined s p e → withView r h x c ≡ fresh s p e
-unfolding fresh
+-- what is held, by its parts
+fresh-by : (s : Settings) (p : Pictures) (e : Depths) (h : Held) (x : View) (c : List ℕ) (r : Bool) → readView x ≡ freshView s p e r → readView (viewOf h (not r)) ≡ freshView s p e (not r) → readAll c ≡ freshCombined s p e → readHeld (withView r h x c) ≡ fresh s p e
+unfolding fresh readHeld
 fresh-by s p e h x c true own other combined = rw (own, other, combined)
 fresh-by s p e h x c false own other combined = rw (own, other, combined)
+
+low-by : (h : Held) (x : View) (c : List ℕ) (r : Bool) → Low (x .samples) → Low (viewOf h (not r) .samples) → Low c → readHeld (withView r h x c) ≡ withView r h x c
+unfolding readHeld
+low-by h x c true own other combined = rw (read-low (x .samples) own, read-low (h .left .samples) other, read-low c combined)
+low-by h x c false own other combined = rw (read-low (x .samples) own, read-low (h .right .samples) other, read-low c combined)
+
+-- what is read as it stands has no higher sample
+low-view : (h : Held) → readHeld h ≡ h → (q : Bool) → Low (viewOf h q .samples)
+unfolding readHeld
+low-view h e true = low-read (h .right .samples) (ap (λ (k : Held). k .right .samples) e)
+low-view h e false = low-read (h .left .samples) (ap (λ (k : Held). k .left .samples) e)
+
+low-picture : (h : Held) → readHeld h ≡ h → Low (h .combined)
+unfolding readHeld
+low-picture h e = low-read (h .combined) (ap (λ (k : Held). k .combined) e)
 
 module _ (s : Settings) (p : Pictures) (d₀ : Depths) (h₀ : Held) (v : ℕ) (b : Block) (c : List ℕ) (r : Bool) (side : isRight v ≡ r) (d′ : List ℕ) (v′ : View) (c′ : List ℕ) (set : BlockSet r (tableOf s r) (s .share) (s .tolerance) (s .w) (s .h) b (textureOf p r) c (viewOf h₀ (not r) .samples) (viewOf h₀ (not r) .fronts) (viewOf h₀ (not r) .marks) (depthsOf d₀ r) d′ (viewOf h₀ r) v′ (h₀ .combined) c′) where
   pub set-depths : withDepths r d₀ d′ ≡ written s v b c d₀
@@ -142,7 +157,7 @@ module _ (s : Settings) (p : Pictures) (d₀ : Depths) (h₀ : Held) (v : ℕ) (
   pub set-untouched : Untouched s v b h₀ (withView r h₀ v′ c′)
   set-untouched = untouched-by s v b h₀ v′ c′ (set .others-combined) r side (set .others)
 
-  module _ (sized : DepthsSized s d₀) (sound : h₀ ≡ fresh s p d₀) where
+  module _ (sized : DepthsSized s d₀) (sound : readHeld h₀ ≡ fresh s p d₀) where
     abbrev after : Depths
     after = written s v b c d₀
 
@@ -152,35 +167,40 @@ module _ (s : Settings) (p : Pictures) (d₀ : Depths) (h₀ : Held) (v : ℕ) (
     own-depths : d′ ≡ depthsOf after r
     own-depths = set .depths ∙ sym (rw side at (written-own s v b c d₀))
 
-    was-fresh : (q : Bool) → viewOf h₀ q ≡ freshView s p d₀ q
-    was-fresh q = ap (λ (h : Held). viewOf h q) sound ∙ view-fresh s p d₀ q
+    was-fresh : (q : Bool) → readView (viewOf h₀ q) ≡ freshView s p d₀ q
+    was-fresh q = view-read h₀ q ∙ ap (λ (h : Held). viewOf h q) sound ∙ view-fresh s p d₀ q
 
     was-sound : (y : ℕ) → y < s .h → SoundRow r (tableOf s r) (textureOf p r) (s .w) (depthsOf d₀ r) (viewOf h₀ r) y
-    was-sound y k = rw (was-fresh r) (fresh-sound s p d₀ sized r y k)
+    was-sound y k = fresh-sound s p d₀ sized r (viewOf h₀ r) (was-fresh r) y k
 
-    own-fresh : v′ ≡ freshView s p after r
+    own-fresh : readView v′ ≡ freshView s p after r
     own-fresh =
         sound-fresh s p after after-sized r v′ (rw own-depths at (set .size)) (λ y k. rw own-depths at (set .sound y (was-sound y k)))
 
-    other-fresh : viewOf h₀ (not r) ≡ freshView s p after (not r)
+    other-fresh : readView (viewOf h₀ (not r)) ≡ freshView s p after (not r)
     other-fresh = was-fresh (not r) ∙ sym (view-depths s p d₀ after (not r) (rw side at (written-other s v b c d₀)))
 
-    -- two views that are fresh combine to the fresh row
-    combines : (d : Depths) (a e : View) (y : ℕ) → DepthsSized s d → y < s .h → a ≡ freshView s p d r → e ≡ freshView s p d (not r) → combinedRow r (s .share) (s .tolerance) (heldIn (s .w) a y) (heldIn (s .w) e y) (s .w) ≡ listOf (freshSample s p d y) (s .w)
-    combines d a e y z k ea ee = rw (ea, ee) (fresh-combined s p d z r y k)
+    was-combined : (y : ℕ) → y < s .h → readAll (rowOf (h₀ .combined) (s .w) y) ≡ listOf (freshSample s p d₀ y) (s .w)
+    unfolding fresh readHeld
+    was-combined y k =
+        readAll-row (h₀ .combined) (s .w) y ∙ ap (λ (h : Held). rowOf (h .combined) (s .w) y) sound ∙ row-fresh-combined s p d₀ y k
 
-    was-combined : (y : ℕ) → y < s .h → rowOf (h₀ .combined) (s .w) y ≡ listOf (freshSample s p d₀ y) (s .w)
-    unfolding fresh
-    was-combined y k = ap (λ (h : Held). rowOf (h .combined) (s .w) y) sound ∙ row-fresh-combined s p d₀ y k
-
-    combined-row : (y : ℕ) → y < s .h → rowOf c′ (s .w) y ≡ listOf (freshSample s p after y) (s .w)
+    combined-row : (y : ℕ) → y < s .h → readAll (rowOf c′ (s .w) y) ≡ listOf (freshSample s p after y) (s .w)
     combined-row y k =
         set .combined y (was-sound y k)
-        (was-combined y k ∙ sym (combines d₀ (viewOf h₀ r) (viewOf h₀ (not r)) y sized k (was-fresh r) (was-fresh (not r))))
-        ∙ combines after v′ (viewOf h₀ (not r)) y after-sized k own-fresh other-fresh
+        (was-combined y k ∙ sym (fresh-combined s p d₀ sized r (viewOf h₀ r) (viewOf h₀ (not r)) (was-fresh r) (was-fresh (not r)) y k))
+        ∙ fresh-combined s p after after-sized r v′ (viewOf h₀ (not r)) own-fresh other-fresh y k
 
-    pub set-fresh : withView r h₀ v′ c′ ≡ fresh s p (written s v b c d₀)
-    set-fresh =
+    pub set-read : readHeld (withView r h₀ v′ c′) ≡ fresh s p (written s v b c d₀)
+    set-read =
         fresh-by s p after h₀ v′ c′ r own-fresh other-fresh
-        (plane-ext 0 (s .w) (s .h) c′ (freshCombined s p after) (set .other .combined ∙ mul-comm (s .w) (s .h)) (length-fresh-combined s p after ∙ mul-comm (s .w) (s .h))
-        (λ y k. combined-row y k ∙ sym (row-fresh-combined s p after y k)))
+        (plane-ext 0 (s .w) (s .h) (readAll c′) (freshCombined s p after) (length-readAll c′ ∙ set .other .combined ∙ mul-comm (s .w) (s .h)) (length-fresh-combined s p after ∙ mul-comm (s .w) (s .h))
+        (λ y k. sym (readAll-row c′ (s .w) y) ∙ combined-row y k ∙ sym (row-fresh-combined s p after y k)))
+
+  -- a drawing is read as it stands, and so is what is set in it
+  pub set-fresh : DepthsSized s d₀ → s .share ≤ 64 → h₀ ≡ fresh s p d₀ → withView r h₀ v′ c′ ≡ fresh s p (written s v b c d₀)
+  set-fresh sized share sound =
+      let as-read = ap readHeld sound ∙ fresh-read s p d₀ sized share in
+      let still = as-read ∙ sym sound in
+      sym (low-by h₀ v′ c′ r (set .low (low-view h₀ still r)) (low-view h₀ still (not r)) (set .low-combined (low-picture h₀ still)))
+      ∙ set-read sized as-read

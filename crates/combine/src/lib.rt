@@ -20,13 +20,13 @@ fn combine_row(
     y: usize,
     from: usize,
     to: usize,
-    samples: &[u8],
+    samples: &[u16],
     fronts: &[u8],
     marks: &[u8],
-    samples2: &[u8],
+    samples2: &[u16],
     fronts2: &[u8],
     marks2: &[u8],
-    combined: &mut [u8],
+    combined: &mut [u16],
 )
     requires { ⌜ (share ≤ 64) × ((w ≤ 4096) × ((from ≤ to) × (to ≤ w))) ⌝ }
     requires { ⌜ (ViewIn w y (now samples) (now fronts) (now marks)) × (ViewIn w y (now samples2) (now fronts2) (now marks2)) ⌝ }
@@ -66,17 +66,17 @@ fn set_row(
     w: usize,
     y: usize,
     column: usize,
-    texture: &[u8],
+    texture: &[u16],
     candidate: &[u8],
     depths: &mut [u8],
-    samples: &mut [u8],
+    samples: &mut [u16],
     fronts: &mut [u8],
     limits: &mut [i16],
     marks: &mut [u8],
-    samples2: &[u8],
+    samples2: &[u16],
     fronts2: &[u8],
     marks2: &[u8],
-    combined: &mut [u8],
+    combined: &mut [u16],
 )
     requires { ⌜ (tableOk (now table) ≡ true) × ((share ≤ 64) × (w ≤ 4096)) ⌝ }
     requires { ⌜ RowIn w y (now texture) (now depths) (view (now samples) (now fronts) (now limits) (now marks)) ⌝ }
@@ -134,17 +134,17 @@ pub fn set_block(
     row: usize,
     width: usize,
     height: usize,
-    texture: &[u8],
+    texture: &[u16],
     candidate: &[u8],
     depths: &mut [u8],
-    samples: &mut [u8],
+    samples: &mut [u16],
     fronts: &mut [u8],
     limits: &mut [i16],
     marks: &mut [u8],
-    samples2: &[u8],
+    samples2: &[u16],
     fronts2: &[u8],
     marks2: &[u8],
-    combined: &mut [u8],
+    combined: &mut [u16],
 )
     requires { ⌜ (tableOk (now table) ≡ true) × ((share ≤ 64) × ((w ≤ 4096) × (h ≤ 4096))) ⌝ }
     requires { ⌜ Sized w h (now texture) (now depths) (view (now samples) (now fronts) (now limits) (now marks)) ⌝ }

@@ -12,23 +12,24 @@ use lib.ListN.{length, getD, take, drop}
 use lib.Seq.{take-length, drop-drop, paste}
 use Rattle.model.specs.declared.Pixel.{Pixel}
 use Rattle.model.specs.Lists.{rowOf}
-use Rattle.model.specs.Row.{line, leftRow}
+use Rattle.model.specs.Row.{line, sampleIn, leftRow}
 use Rattle.model.specs.Views.{seen, viewRow}
 use Rattle.model.specs.Marks.{markBytes, packRow, markAt}
-use Rattle.model.specs.Planes.{View, viewRows}
+use Rattle.model.specs.Planes.{View, readAll, viewRows}
 use Rattle.model.proofs.Choice.{lt-or-le}
 use Rattle.model.proofs.Lists.{rows-apart, length-row}
 use Rattle.model.proofs.Views.{length-view-marks}
 use Rattle.model.proofs.Packing.{Flags, mark-packRow}
 use Rattle.model.proofs.Fresh.{flags-view}
 use Rattle.planes.specs.Parts.{splice}
+use Rattle.planes.proofs.Read.{read-put, low-splice}
 use Rattle.planes.proofs.Splices.{splice-under, splice-beyond, row-splice, row-other}
 use Rattle.model.specs.Refusals.{tableOk}
 use Rattle.pixel.specs.declared.Edge.{Edge}
 use Rattle.marks.specs.Puts.{putMarks, heldPixel}
 use Rattle.marks.proofs.Puts.{put-packRow}
 use Rattle.commit.specs.Commit.{Sized, RowIn, drawnRow, SoundRow, heldIn, Changed, spanShown, RowRedrawn, RowCommitted}
-use Rattle.commit.proofs.Shown.{length-shown, flags-shown}
+use Rattle.commit.proofs.Shown.{length-shown, flags-shown, low-shown}
 use Rattle.commit.proofs.Rows.{RowStep, shown-fits, limits-new, plane-new}
 
 row-in : (w h y n : ℕ) → y < h → n ≡ w * h → y * w + w ≤ n
@@ -115,7 +116,8 @@ module _ (r : Bool) (t texture : List ℕ) (w y x n low : ℕ) (edge : Edge) (fr
     unfolding viewRow leftRow
     sound-here =
         record {
-          samples = samples-row ∙ plane-new step (rowOf texture w y) (s .limits) (λ q. q .sample) (rowOf (v .samples) w y) (s .samples);
+          samples = ap readAll samples-row ∙ read-put (rowOf (v .samples) w y) from _ (rw (length-row (v .samples) w y (size .samples)) (fit (λ q. q .sample))) (low-shown r _ n edge _ _)
+              ∙ plane-new step (rowOf texture w y) (s .limits) (λ q. q .sample) (readAll (rowOf (v .samples) w y)) (s .samples);
           fronts = fronts-row ∙ plane-new step (rowOf texture w y) (s .limits) (λ q. q .front) (rowOf (v .fronts) w y) (s .fronts);
           limits = limits-new step (rowOf texture w y) (s .limits);
           marks = marks-row ∙ ap (packRow (markBytes w)) (plane-new step (rowOf texture w y) (s .limits) (λ q. q .mark) _ refl);
@@ -137,7 +139,7 @@ module _ (r : Bool) (t texture : List ℕ) (w y x n low : ℕ) (edge : Edge) (fr
         ∙ sym (mark-here d (rowOf (v .marks) (markBytes w) y) i (s .marks) h)
 
     kept-here : (i : ℕ) → i < w → (i < from) ⊎ (to ≤ i) → heldIn w v′ y i ≡ heldIn w v y i
-    unfolding heldPixel
+    unfolding heldPixel sampleIn
     kept-here i h out =
         let l = line t (seen r (rowOf texture w y)) (seen r (rowOf d′ w y)) in
         let es : getD (rowOf (v′ .samples) w y) i 0 ≡ getD (rowOf (v .samples) w y) i 0 =
@@ -170,7 +172,7 @@ module _ (r : Bool) (t texture : List ℕ) (w y x n low : ℕ) (edge : Edge) (fr
     sound-other s =
         let e = others-kept in
         record {
-          samples = ap (λ (q : View). q .samples) e ∙ rw depths-other (s .samples);
+          samples = ap (λ (q : View). readAll (q .samples)) e ∙ rw depths-other (s .samples);
           fronts = ap (λ (q : View). q .fronts) e ∙ rw depths-other (s .fronts);
           limits = ap (λ (q : View). q .limits) e ∙ rw depths-other (s .limits);
           marks = ap (λ (q : View). q .marks) e ∙ rw depths-other (s .marks);
@@ -186,5 +188,6 @@ module _ (r : Bool) (t texture : List ℕ) (w y x n low : ℕ) (edge : Edge) (fr
         others = others-kept;
         order = omega (arith, redraw .drawn .stretched .size);
         within = redraw .drawn .stretched .within;
+        low = λ low. rw (redraw .drawn .samples) (low-splice (v .samples) (y * w + from) _ (omega (arith, fit (λ q. q .sample), size .samples)) low (low-shown r _ n edge _ _));
         kept = kept-here;
       }

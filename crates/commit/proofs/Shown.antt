@@ -1,5 +1,6 @@
 -- What is drawn in a stretch, and the span's put into its row.
---     length-shown, none-shown, flags-shown    what a stretch shows: as many values as it has positions, marks of 0 and 1
+--     length-shown, none-shown                 what a stretch shows: as many values as it has positions,
+--     low-shown, flags-shown                   samples up to the greatest, marks of 0 and 1
 --     shown-filled                             a row with the span's values put in, as the view reads it
 use Prim.Native.Nat.{ℕ, _+_, _-_, _<_, _≤_}
 use mathlib.Core.Path.{_≡_, refl}
@@ -17,12 +18,13 @@ use Rattle.model.proofs.Choice.{lt-or-le}
 use Rattle.model.proofs.Lists.{length-listOf, getD-listOf}
 use Rattle.model.proofs.Views.{length-seen, seen-seen, getD-seen, length-seen-list}
 use Rattle.model.proofs.Packing.{Flags}
-use Rattle.planes.specs.Parts.{splice, Filled}
+use Rattle.planes.specs.Parts.{splice, Filled, Low}
+use Rattle.planes.proofs.Read.{low-list, low-seen}
 use Rattle.planes.proofs.Splices.{splice-none}
 use Rattle.planes.proofs.SeenParts.{seen-filled}
 use Rattle.pixel.specs.declared.Edge.{Edge}
 use Rattle.row.specs.Drawing.{firstAt, pixelBelow}
-use Rattle.row.proofs.Below.{flag-below}
+use Rattle.row.proofs.Below.{flag-below, below-sample}
 use Rattle.commit.specs.Commit.{partShown, spanShown}
 
 pub flags-listOf : (f : ℕ → ℕ) (n : ℕ) → ((k : ℕ) → f k < 2) → Flags (listOf f n)
@@ -42,6 +44,11 @@ pub none-shown : (g : Pixel → ℕ) (r : Bool) (l : Line) (n : ℕ) (edge : Edg
 unfolding partShown seen listFrom
 none-shown g true l n edge start = refl
 none-shown g false l n edge start = refl
+
+-- no sample of a stretch is above the greatest
+pub low-shown : (r : Bool) (l : Line) (n : ℕ) (edge : Edge) (start k : ℕ) → Low (partShown (λ q. q .sample) r l n edge start k)
+unfolding partShown
+low-shown r l n edge start k = low-seen r _ (low-list (λ i. pixelBelow l n edge (start + i) .sample) k (λ i. below-sample l n edge (start + i)))
 
 pub flags-shown : (r : Bool) (l : Line) (n : ℕ) (edge : Edge) (start k : ℕ) → Flags (partShown (λ q. q .mark) r l n edge start k)
 unfolding partShown

@@ -13,9 +13,9 @@ use Rattle.model.specs.Lists.{listOf, rowOf}
 use Rattle.model.specs.Row.{Line, line, Row, place, signed}
 use Rattle.model.specs.Views.{seen, viewRow}
 use Rattle.model.specs.Marks.{markBytes, packRow}
-use Rattle.model.specs.Planes.{View, viewRows}
+use Rattle.model.specs.Planes.{View, readAll, viewRows}
 use Rattle.model.specs.Span.{spanLow, firstColumn}
-use Rattle.planes.specs.Parts.{splice, Filled}
+use Rattle.planes.specs.Parts.{splice, Filled, Low}
 use Rattle.signed.specs.Limits.{raisedOf}
 use Rattle.pixel.specs.declared.Edge.{Edge}
 use Rattle.marks.specs.Puts.{putMarks, heldPixel}
@@ -45,9 +45,9 @@ pub record RowIn (w y : ℕ) (picture d : List ℕ) (v : View) : Type 0 where
 abbrev pub drawnRow : Bool → List ℕ → List ℕ → ℕ → List ℕ → ℕ → Row
 drawnRow right t texture w d y = viewRow right (line t (rowOf texture w y) (rowOf d w y))
 
--- row y of a view's planes is the fresh drawing of row y of its depths
+-- row y of a view's planes is the fresh drawing of row y of its depths, its samples as they are read
 pub record SoundRow (right : Bool) (t texture : List ℕ) (w : ℕ) (d : List ℕ) (v : View) (y : ℕ) : Type 0 where
-  pub samples : rowOf (v .samples) w y ≡ drawnRow right t texture w d y .samples
+  pub samples : readAll (rowOf (v .samples) w y) ≡ drawnRow right t texture w d y .samples
   pub fronts : rowOf (v .fronts) w y ≡ drawnRow right t texture w d y .fronts
   pub limits : rowOf (v .limits) w y ≡ drawnRow right t texture w d y .limits
   pub marks : rowOf (v .marks) (markBytes w) y ≡ packRow (markBytes w) (drawnRow right t texture w d y .marks)
@@ -138,11 +138,12 @@ pub record RowRedrawn (right : Bool) (l : Line) (w y n low : ℕ) (edge : Edge) 
   pub others : (k : ℕ) → (k ≡ y → ⊥) → rowOf m′ (markBytes w) k ≡ rowOf m (markBytes w) k
 
 -- Row y of one view is committed: the candidate stands at its column x, and every row that was sound is sound again. No other row changes,
--- and of this one only the entries `from` up to `to` are drawn anew.
+-- and of this one only the entries `from` up to `to` are drawn anew, with no sample above the greatest.
 pub record RowCommitted (right : Bool) (t texture : List ℕ) (w y x : ℕ) (candidate d d′ : List ℕ) (v v′ : View) (from to : ℕ) : Type 0 where
   pub depths : d′ ≡ splice d (y * w + x) candidate
   pub sound : (k : ℕ) → SoundRow right t texture w d v k → SoundRow right t texture w d′ v′ k
   pub others : (k : ℕ) → (k ≡ y → ⊥) → viewRows w v′ k ≡ viewRows w v k
   pub order : from ≤ to
   pub within : to ≤ w
+  pub low : Low (v .samples) → Low (v′ .samples)
   pub kept : SoundRow right t texture w d v y → (i : ℕ) → i < w → (i < from) ⊎ (to ≤ i) → heldIn w v′ y i ≡ heldIn w v y i

@@ -59,11 +59,11 @@ fn same_view(
     w: usize,
     y: usize,
     x: usize,
-    samples: &[u8],
+    samples: &[u16],
     fronts: &[u8],
     limits: &[i16],
     marks: &[u8],
-    freshSamples: &[u8; 4096],
+    freshSamples: &[u16; 4096],
     freshFronts: &[u8; 4096],
     freshLimits: &[i16; 4096],
     freshMarks: &[u8; 512],
@@ -92,24 +92,24 @@ pub fn same_at(
     w: usize,
     y: usize,
     x: usize,
-    leftSamples: &[u8],
+    leftSamples: &[u16],
     leftFronts: &[u8],
     leftLimits: &[i16],
     leftMarks: &[u8],
-    rightSamples: &[u8],
+    rightSamples: &[u16],
     rightFronts: &[u8],
     rightLimits: &[i16],
     rightMarks: &[u8],
-    combined: &[u8],
-    samples0: &[u8; 4096],
+    combined: &[u16],
+    samples0: &[u16; 4096],
     fronts0: &[u8; 4096],
     limits0: &[i16; 4096],
     marks0: &[u8; 512],
-    samples1: &[u8; 4096],
+    samples1: &[u16; 4096],
     fronts1: &[u8; 4096],
     limits1: &[i16; 4096],
     marks1: &[u8; 512],
-    shown: u8,
+    shown: u16,
 ) -> bool
     requires { ⌜ HeldAt w (view (now leftSamples) (now leftFronts) (now leftLimits) (now leftMarks)) y x ⌝ }
     requires { ⌜ HeldAt w (view (now rightSamples) (now rightFronts) (now rightLimits) (now rightMarks)) y x ⌝ }
@@ -160,14 +160,14 @@ pub fn same_at(
 pub fn shown_at(
     share: u8,
     tolerance: u8,
-    samples0: &[u8; 4096],
+    samples0: &[u16; 4096],
     fronts0: &[u8; 4096],
     marks0: &[u8; 512],
-    samples1: &[u8; 4096],
+    samples1: &[u16; 4096],
     fronts1: &[u8; 4096],
     marks1: &[u8; 512],
     x: usize,
-) -> u8
+) -> u16
     requires { ⌜ share ≤ 64 ⌝ }
     requires { ⌜ x < 4096 ⌝ }
     ensures { λ r. ⌜ r ≡ combinedOf share tolerance

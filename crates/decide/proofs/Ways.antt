@@ -8,9 +8,7 @@ use mathlib.Core.Path.{_≡_, sym, ap, _∙_}
 use mathlib.Core.Bool.{Bool, true, false}
 use mathlib.Core.List.{List}
 use native.Mathlib.Omega.{arith}
-use mir.Syntax.{w8}
-use mir.Val as val
-use lib.ListN.{length, getD}
+use lib.ListN.{length}
 use lib.IntN.{ℤ, pos, subℕ, _+ℤ_, natAbs}
 use Rattle.model.specs.declared.Settings.{Settings}
 use Rattle.model.specs.declared.Block.{Block}
@@ -23,7 +21,7 @@ use Rattle.model.specs.Refusals.{numberOf, tableOk, within, inRange, earlyNumbe
 use Rattle.model.proofs.Fresh.{fresh-total, freshTotal-total}
 use Rattle.model.proofs.Written.{written-total}
 use Rattle.model.proofs.Locality.{sized-written}
-use Rattle.model.proofs.Totals.{Bytes, BytePictures, total-most}
+use Rattle.model.proofs.Totals.{total-most}
 use Rattle.model.proofs.Refusals.{Tables, table-yes, Common, Own, common-facts, own-facts, early-common, early-own, call-early, call-late}
 use Rattle.signed.proofs.Totals.{change-is, change-range}
 use Rattle.trial.specs.Trial.{Sized, Fits, BlockTrial}
@@ -31,10 +29,6 @@ use Rattle.trial.proofs.Blocks.{block-small}
 use Rattle.trial.proofs.Sound.{aroundOf, ownOf, trial-sound}
 use Rattle.decide.specs.declared.Decision.{Decision}
 use Rattle.decide.specs.Decided.{Tried, Judged, Decided}
-
--- a slice of bytes
-pub bytes : (l : List ℕ) → ((i : ℕ) → val.Fits w8 (getD l i 0)) → Bytes l
-bytes l h = record { at = λ i. omega (arith, h i) }
 
 -- 8 judged by two sums: out of range, and in it
 module _ (total old new most : ℕ) (r : Decision) where
@@ -111,13 +105,13 @@ module _ (s : Settings) (p : Pictures) (d : Depths) (h : Held) (v : ℕ) (b : Bl
           kept = λ _. t;
         }
 
-    pub decided-late : {old new : ℕ} → earlyNumber s p d h v b (length c) ≡ 0 → BytePictures p → Tried s p d h v b c old new → Judged (s .total) old new (worst * area s) r → Decided s p d h v b c r
+    pub decided-late : {old new : ℕ} → earlyNumber s p d h v b (length c) ≡ 0 → Tried s p d h v b c old new → Judged (s .total) old new (worst * area s) r → Decided s p d h v b c r
     unfolding inRange changeOf
-    decided-late {old} {new} e byte t j =
+    decided-late {old} {new} e t j =
         let f = passed e in
         let is : ℕ = freshTotal s p (written s v b c d) in
         let was : ℕ = freshTotal s p d in
-        let most : is ≤ worst * area s = total-most s p (written s v b c d) (sized-written s v b c d (f .common .depths)) byte (f .common .share) in
+        let most : is ≤ worst * area s = total-most s p (written s v b c d) (sized-written s v b c d (f .common .depths)) (f .common .share) in
         record {
           answer = record {
             found = subℕ new old;

@@ -8,7 +8,7 @@ use Rattle.model.specs.declared.Block.{Block}
 use Rattle.model.specs.declared.Trial.{Trial}
 use Rattle.model.specs.Combined.{worst}
 use Rattle.model.specs.Planes as planes
-use Rattle.model.specs.Planes.{Pictures, Depths, Held, held}
+use Rattle.model.specs.Planes.{Pictures, Depths, Held, held, readHeld}
 use Rattle.model.specs.Fresh.{fresh, freshTotal}
 use Rattle.model.specs.Blocks.{written}
 use Rattle.model.specs.Refusals.{numberOf, unless, within}
@@ -23,11 +23,11 @@ settingsOf w h left right share tolerance total =
 abbrev pub heldOf : List ℕ → List ℕ → List ℤ → List ℕ → List ℕ → List ℕ → List ℤ → List ℕ → List ℕ → Held
 heldOf ls lf ll lm rs rf rl rm combined = held (planes.view ls lf ll lm) (planes.view rs rf rl rm) combined
 
--- The two sums of a trial. Where the planes hold the fresh drawing, they differ by the change of the total.
+-- The two sums of a trial. Where the planes, as they are read, hold the fresh drawing, they differ by the change of the total.
 pub record Tried (s : Settings) (p : Pictures) (d : Depths) (h : Held) (v : ℕ) (b : Block) (c : List ℕ) (old new : ℕ) : Type 0 where
   pub old-most : old ≤ worst * 16777216
   pub new-most : new ≤ worst * 16777216
-  pub change : h ≡ fresh s p d → freshTotal s p (written s v b c d) + old ≡ freshTotal s p d + new
+  pub change : readHeld h ≡ fresh s p d → freshTotal s p (written s v b c d) + old ≡ freshTotal s p d + new
 
 -- 8 judged by two such sums: the total moved by their difference, or as it was.
 pub record Judged (total old new most : ℕ) (r : Decision) : Type 0 where

@@ -31,12 +31,12 @@ fn refused(refusal: Refusal, total: u64) -> Decision
     }
 }
 
-// The highest total: 65,025 for each position.
+// The highest total: 1,046,529 for each position.
 pub fn most_total(w: u32, h: u32) -> u64
     requires { ⌜ (w ≤ 4096) × (h ≤ 4096) ⌝ }
     ensures { λ r. ⌜ (r ≡ worst * (w * h)) × (r ≤ worst * 16777216) ⌝ }
 {
-    65025 * ((w as u64) * (h as u64))
+    1046529 * ((w as u64) * (h as u64))
 }
 
 // 8 where the total with the change is out of range, else the change.
@@ -64,20 +64,20 @@ fn try_candidate(
     rightTable: &[u16; 256],
     share: u8,
     tolerance: u8,
-    left: &[u8],
-    right: &[u8],
-    reference: &[u8],
+    left: &[u16],
+    right: &[u16],
+    reference: &[u16],
     leftDepths: &[u8],
     rightDepths: &[u8],
-    leftSamples: &[u8],
+    leftSamples: &[u16],
     leftFronts: &[u8],
     leftLimits: &[i16],
     leftMarks: &[u8],
-    rightSamples: &[u8],
+    rightSamples: &[u16],
     rightFronts: &[u8],
     rightLimits: &[i16],
     rightMarks: &[u8],
-    combined: &[u8],
+    combined: &[u16],
     view: u32,
     block: Block,
     candidate: &[u8],
@@ -154,20 +154,20 @@ pub fn decide<'a>(
     share: u8,
     tolerance: u8,
     total: u64,
-    left: &[u8],
-    right: &[u8],
-    reference: &[u8],
+    left: &[u16],
+    right: &[u16],
+    reference: &[u16],
     leftDepths: &[u8],
     rightDepths: &[u8],
-    leftSamples: &[u8],
+    leftSamples: &[u16],
     leftFronts: &[u8],
     leftLimits: &[i16],
     leftMarks: &[u8],
-    rightSamples: &[u8],
+    rightSamples: &[u16],
     rightFronts: &[u8],
     rightLimits: &[i16],
     rightMarks: &[u8],
-    combined: &[u8],
+    combined: &[u16],
     view: u32,
     block: Block,
     candidate: &[u8],

@@ -13,17 +13,20 @@ use lib.ListN.{length, getD, take, drop}
 use Rattle.model.specs.declared.Settings.{Settings}
 use Rattle.model.specs.declared.Pixel.{Pixel}
 use Rattle.model.specs.Lists.{listOf, rowOf, sumTo}
+use Rattle.model.specs.Row.{read, sampleIn}
 use Rattle.model.specs.Marks.{markBytes}
 use Rattle.model.specs.Combined.{worst, combinedOf, squareError}
-use Rattle.model.specs.Planes.{Pictures, Depths, area}
+use Rattle.model.specs.Planes.{Pictures, Depths, area, readView}
 use Rattle.model.specs.Fresh.{freshRow, freshView, shownAt, freshSample, freshCombined, freshTotal}
 use Rattle.model.proofs.Choice.{lt-or-le}
-use Rattle.model.proofs.Lists.{rows-apart, plane-ext, list-same, getD-listOf, getD-row}
+use Rattle.model.proofs.Lists.{rows-apart, plane-ext, list-same, getD-listOf}
 use Rattle.model.proofs.Sums.{sum-next, sum-same}
-use Rattle.model.proofs.Fresh.{DepthsSized, row-fresh-samples, row-fresh-fronts, mark-fresh, row-fresh-combined, length-fresh-combined}
-use Rattle.model.proofs.Totals.{errorAt, total-rows}
+use Rattle.model.proofs.Fresh.{DepthsSized, row-fresh-combined, length-fresh-combined}
+use Rattle.model.proofs.Totals.{read-same, errorAt, total-rows, sample-most}
+use Rattle.model.proofs.Readings.{sampleIn-row, samples-read}
 use Rattle.planes.proofs.Splices.{part-row, part-length}
 use Rattle.marks.specs.Puts.{heldPixel}
+use Rattle.marks.proofs.Held.{held-fresh}
 use Rattle.sums.specs.Sides.{paired}
 use Rattle.blend.specs.Blend.{Reaches, combinedPart}
 use Rattle.draw.proofs.Planes.{part, back-row, back-other}
@@ -63,7 +66,7 @@ row-combined share tolerance w y s₀ f₀ m₀ s₁ f₁ m₁ c xs fits long e 
 -- the sum of the squared errors of row y, from its parts
 pub row-error :
     (w y : ℕ) (c reference : List ℕ) (r : ℕ) → y * w + w ≤ length c →
-    (r ≡ sumTo (λ i. squareError (getD (part c w y) i 0) (getD (part reference w y) i 0)) (length (part c w y))) × (r ≤ worst * length (part c w y)) →
+    (r ≡ sumTo (λ i. squareError (sampleIn (part c w y) i) (sampleIn (part reference w y) i)) (length (part c w y))) × (r ≤ worst * length (part c w y)) →
     (r ≡ rowError w (rowOf c w y) reference y) × (r ≤ worst * w)
 unfolding rowError
 row-error w y c reference r fits h =
@@ -96,17 +99,18 @@ module _ {share tolerance w : ℕ} {left right : ℕ → ℕ → Pixel} {referen
 -- a total and one row more stay far below 64 bits
 pub picture-most : {w y total x r : ℕ} → total ≤ worst * w * y → x ≡ r → r ≤ worst * w → w ≤ 4096 → y ≤ 4096 → total + x < 2 ^ 64
 picture-most {w} {y} h e k hw hy =
-    let a : worst * w ≤ 266342400 = omega arith in
-    let b : worst * w * y ≤ 266342400 * 4096 = mul-le-mul a hy in
+    let a : worst * w ≤ 4286582784 = omega arith in
+    let b : worst * w * y ≤ 4286582784 * 4096 = mul-le-mul a hy in
     omega arith
 
 -- ---- the fresh drawing
 
-module _ (s : Settings) (p : Pictures) (d : Depths) (z : DepthsSized s d) where
+module _ (s : Settings) (p : Pictures) (d : Depths) (z : DepthsSized s d) (most : s .share ≤ 64) where
   -- what the fresh planes hold is what the rows show
-  pub held-fresh : (q : Bool) (y i : ℕ) → y < s .h → i < s .w → heldRows (s .w) (freshView s p d q .samples) (freshView s p d q .fronts) (freshView s p d q .marks) y i ≡ shownAt (freshRow s p d q y) i
-  unfolding heldPixel
-  held-fresh q y i h k = rw (row-fresh-samples s p d z q y h, row-fresh-fronts s p d z q y h, mark-fresh s p d z q y i h k)
+  shows : (q : Bool) (y i : ℕ) → y < s .h → i < s .w → heldRows (s .w) (freshView s p d q .samples) (freshView s p d q .fronts) (freshView s p d q .marks) y i ≡ shownAt (freshRow s p d q y) i
+  shows q y i h k =
+      let e : readView (freshView s p d q) ≡ freshView s p d q = rw (samples-read s p d z q) in
+      held-fresh s p d z q (freshView s p d q) e y i h k
 
   abbrev side : Bool → ℕ → ℕ → Pixel
   side q = heldRows (s .w) (freshView s p d q .samples) (freshView s p d q .fronts) (freshView s p d q .marks)
@@ -116,8 +120,8 @@ module _ (s : Settings) (p : Pictures) (d : Depths) (z : DepthsSized s d) where
   row-fresh y h =
       list-same 0 (λ i. paired false (s .share) (s .tolerance) (side false y (0 + i)) (side true y (0 + i))) (freshSample s p d y) (s .w)
       (λ i k. let e : 0 + i ≡ i = omega arith in rw e
-      (ap (λ (a : Pixel). combinedOf (s .share) (s .tolerance) a (side true y i)) (held-fresh false y i h k)
-      ∙ ap (λ (a : Pixel). combinedOf (s .share) (s .tolerance) (shownAt (freshRow s p d false y) i) a) (held-fresh true y i h k)))
+      (ap (λ (a : Pixel). combinedOf (s .share) (s .tolerance) a (side true y i)) (shows false y i h k)
+      ∙ ap (λ (a : Pixel). combinedOf (s .share) (s .tolerance) (shownAt (freshRow s p d false y) i) a) (shows true y i h k)))
 
   module _ (c : List ℕ) (r : ℕ) (wide : length c ≡ area s) (done : PictureCombined (s .share) (s .tolerance) (s .w) (s .h) (side false) (side true) (p .reference) c r) where
     pub picture-whole : c ≡ freshCombined s p d
@@ -126,11 +130,11 @@ module _ (s : Settings) (p : Pictures) (d : Depths) (z : DepthsSized s d) where
         (λ y h. done .rows-are y h ∙ row-fresh y h ∙ sym (row-fresh-combined s p d y h))
 
     pub total-whole : r ≡ freshTotal s p d
-    unfolding rowError errorAt
+    unfolding rowError errorAt sampleIn
     total-whole =
         done .total
         ∙ sum-same (λ y. rowError (s .w) (combinedRow (s .share) (s .tolerance) (s .w) (side false) (side true) y) (p .reference) y) (λ y. sumTo (errorAt s p d y) (s .w)) (s .h)
         (λ y h. ap (λ (l : List ℕ). rowError (s .w) l (p .reference) y) (row-fresh y h)
-        ∙ sum-same (λ i. squareError (getD (listOf (freshSample s p d y) (s .w)) i 0) (getD (rowOf (p .reference) (s .w) y) i 0)) (errorAt s p d y) (s .w)
-        (λ i k. rw (getD-listOf 0 (freshSample s p d y) (s .w) i k, getD-row 0 (p .reference) (s .w) y i k)))
+        ∙ sum-same (λ i. squareError (read (getD (listOf (freshSample s p d y) (s .w)) i 0)) (sampleIn (rowOf (p .reference) (s .w) y) i)) (errorAt s p d y) (s .w)
+        (λ i k. rw (getD-listOf 0 (freshSample s p d y) (s .w) i k, read-same (freshSample s p d y i) (sample-most s p d z most y i h k), sampleIn-row (p .reference) (s .w) y i k)))
         ∙ sym (total-rows s p d)

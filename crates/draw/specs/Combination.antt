@@ -3,9 +3,10 @@ use Prim.Native.Nat.{ℕ, _+_, _*_, _≤_, _<_}
 use mathlib.Core.Path.{_≡_}
 use mathlib.Core.Bool.{false}
 use mathlib.Core.List.{List}
-use lib.ListN.{length, getD}
+use lib.ListN.{length}
 use Rattle.model.specs.declared.Pixel.{Pixel}
 use Rattle.model.specs.Lists.{rowOf, sumTo}
+use Rattle.model.specs.Row.{sampleIn}
 use Rattle.model.specs.Marks.{markBytes}
 use Rattle.model.specs.Combined.{worst, squareError}
 use Rattle.marks.specs.Puts.{heldPixel}
@@ -31,9 +32,9 @@ pub record SideOf (w h : ℕ) (s f m : List ℕ) : Type 0 where
 unfoldable pub combinedRow : ℕ → ℕ → ℕ → (ℕ → ℕ → Pixel) → (ℕ → ℕ → Pixel) → ℕ → List ℕ
 combinedRow share tolerance w left right y = combinedPart false share tolerance (left y) (right y) 0 w
 
--- the sum of its squared errors
+-- the sum of its squared errors, both samples as they are read
 unfoldable pub rowError : ℕ → List ℕ → List ℕ → ℕ → ℕ
-rowError w combined reference y = sumTo (λ i. squareError (getD combined i 0) (getD (rowOf reference w y) i 0)) w
+rowError w combined reference y = sumTo (λ i. squareError (sampleIn combined i) (sampleIn (rowOf reference w y) i)) w
 
 -- row y of the picture is combined, and every other row is as it was
 pub record RowCombined (share tolerance w y : ℕ) (left right : ℕ → ℕ → Pixel) (c c′ : List ℕ) : Type 0 where

@@ -15,9 +15,9 @@ pub fn draw_plane_row(
     table: &[u16; 256],
     w: usize,
     y: usize,
-    texture: &[u8],
+    texture: &[u16],
     depths: &[u8],
-    samples: &mut [u8],
+    samples: &mut [u16],
     fronts: &mut [u8],
     limits: &mut [i16],
     marks: &mut [u8],
@@ -54,9 +54,9 @@ pub fn draw_view(
     table: &[u16; 256],
     w: usize,
     h: usize,
-    texture: &[u8],
+    texture: &[u16],
     depths: &[u8],
-    samples: &mut [u8],
+    samples: &mut [u16],
     fronts: &mut [u8],
     limits: &mut [i16],
     marks: &mut [u8],
@@ -92,13 +92,13 @@ fn blend_row(
     tolerance: u8,
     w: usize,
     y: usize,
-    samples0: &[u8],
+    samples0: &[u16],
     fronts0: &[u8],
     marks0: &[u8],
-    samples1: &[u8],
+    samples1: &[u16],
     fronts1: &[u8],
     marks1: &[u8],
-    combined: &mut [u8],
+    combined: &mut [u16],
 )
     requires { ⌜ (share ≤ 64) × (w ≤ 4096) ⌝ }
     requires { ⌜ (SideIn w y (now samples0) (now fronts0) (now marks0)) × (SideIn w y (now samples1) (now fronts1) (now marks1)) ⌝ }
@@ -126,7 +126,7 @@ fn blend_row(
 }
 
 // The sum of the squared errors of row y of the picture.
-fn error_row(squares: &[u16; 256], w: usize, y: usize, combined: &[u8], reference: &[u8]) -> u32
+fn error_row(squares: &[u32; 1024], w: usize, y: usize, combined: &[u16], reference: &[u16]) -> u32
     requires { ⌜ (Squares (now squares)) × (w ≤ 4096) ⌝ }
     requires { ⌜ (y * w + w ≤ length (now combined)) × (y * w + w ≤ length (now reference)) ⌝ }
     ensures { λ r. ⌜ (r ≡ rowError w (rowOf (now (combined .entry)) w y) (now (reference .entry)) y) × (r ≤ worst * w) ⌝ }
@@ -138,19 +138,19 @@ fn error_row(squares: &[u16; 256], w: usize, y: usize, combined: &[u8], referenc
 
 // Combines the left view's planes (0) and the right view's (1) into the picture, and answers its total.
 pub fn combine_picture(
-    squares: &[u16; 256],
+    squares: &[u32; 1024],
     share: u8,
     tolerance: u8,
     w: usize,
     h: usize,
-    samples0: &[u8],
+    samples0: &[u16],
     fronts0: &[u8],
     marks0: &[u8],
-    samples1: &[u8],
+    samples1: &[u16],
     fronts1: &[u8],
     marks1: &[u8],
-    reference: &[u8],
-    combined: &mut [u8],
+    reference: &[u16],
+    combined: &mut [u16],
 ) -> u64
     requires { ⌜ (Squares (now squares)) × ((share ≤ 64) × ((w ≤ 4096) × (h ≤ 4096))) ⌝ }
     requires { ⌜ (SideOf w h (now samples0) (now fronts0) (now marks0)) × (SideOf w h (now samples1) (now fronts1) (now marks1)) ⌝ }

@@ -11,25 +11,26 @@ use lib.Signed.{shrZ}
 use lib.ListN.{length, getD, take, drop, length-take, length-drop}
 use lib.Seq.{getD-take, getD-drop}
 use Rattle.model.specs.Lists.{listOf, listFrom}
-use Rattle.model.specs.Row.{taps1, taps2, taps3, repeated, weighted, clipped, filtered, mixed}
+use Rattle.model.specs.Row.{read, sampleIn, taps1, taps2, taps3, repeated, weighted, clipped, filtered, mixed}
 use Rattle.model.proofs.Choice.{lt-or-le}
 use Rattle.model.proofs.Lists.{length-listOf, getD-listOf}
+use Rattle.model.proofs.Readings.{read-twice}
 
 -- p has the samples of columns c − 3 to c + 4 of a row s, ends repeated
 pub record Near (s : List ℕ) (c : ℕ) (p : List ℕ) : Type 0 where
   pub eight : length p ≡ 8
-  pub at : (j : ℕ) → j < 8 → getD p j 0 ≡ repeated s (c + j)
+  pub at : (j : ℕ) → j < 8 → sampleIn p j ≡ repeated s (c + j)
 
 -- a part of eight entries, where none of them lies past an end
 pub near-part : (s : List ℕ) (c : ℕ) → 3 ≤ c → c + 4 < length s → Near s c (take (c + 5 - (c - 3)) (drop (c - 3) s))
-unfolding repeated
+unfolding repeated sampleIn
 near-part s c h g =
     let n : c + 5 - (c - 3) ≡ 8 = omega arith in
     rw n (record {
       eight = simp (length-take, length-drop) (omega arith);
       at = λ j k.
           let e : c - 3 + j ≡ min (c + j - 3) (length s - 1) = omega arith in
-          rw (getD-take, getD-drop) (ap (λ (i : ℕ). getD s i 0) e);
+          rw (getD-take, getD-drop) (ap (λ (i : ℕ). read (getD s i 0)) e);
     })
 
 -- all eight, and a list that has them one by one
@@ -37,8 +38,12 @@ around : List ℕ → ℕ → List ℕ
 around s c = listOf (λ j. repeated s (c + j)) 8
 
 around-near : (s : List ℕ) (c : ℕ) → Near s c (around s c)
-unfolding around
-around-near s c = record { eight = length-listOf (λ j. repeated s (c + j)) 8; at = λ j h. getD-listOf 0 (λ j. repeated s (c + j)) 8 j h }
+unfolding around repeated sampleIn
+around-near s c =
+    record {
+      eight = length-listOf (λ j. repeated s (c + j)) 8;
+      at = λ j h. ap read (getD-listOf 0 (λ j. repeated s (c + j)) 8 j h) ∙ read-twice _;
+    }
 
 pub near-list :
     {s : List ℕ} {c a0 a1 a2 a3 a4 a5 a6 a7 : ℕ} →
@@ -81,7 +86,7 @@ module _ (s : List ℕ) (c : ℕ) (p : List ℕ) (near : Near s c p) where
   unfolding repeated
   near-at j h =
       let e : min (3 + j - 3) (length p - 1) ≡ j = omega (arith, near .eight) in
-      ap (λ (i : ℕ). getD p i 0) e ∙ near .at j h
+      ap (sampleIn p) e ∙ near .at j h
 
   near-filtered : (ts : List ℤ) → length ts ≡ 8 → filtered ts p 3 ≡ filtered ts s c
   unfolding filtered

@@ -2,15 +2,15 @@
 --     filtered-parts                        a filter is what its taps add less what they take away, plus 32, divided by 64 and held
 --     eight-first, eight-half, eight-last   so the three filters, over eight samples, are quarterOf, halfOf and quarterOf read backwards
 use Prim.Native.Nat.{ℕ, suc, _+_, _-_, _*_, _/_}
-use mathlib.Core.Path.{_≡_, refl, ap, _∙_}
+use mathlib.Core.Path.{_≡_, refl, sym, ap, _∙_}
 use mathlib.Core.Logic.{⊎-elim}
 use mathlib.Core.List.{List, [], _∷_}
 use native.Mathlib.Omega.{arith}
 use lib.IntN.{ℤ, pos, negsuc, negℤ, subℕ, _+ℤ_, _*ℤ_}
 use lib.Signed.{shrZ}
-use lib.ListN.{length, getD}
+use lib.ListN.{length}
 use borrow.Author.Tests.{lt-ltb, le-ltb}
-use Rattle.model.specs.Row.{taps1, taps2, taps3, repeated, weighted, clipped, filtered}
+use Rattle.model.specs.Row.{sampleIn, taps1, taps2, taps3, repeated, weighted, clipped, filtered}
 use Rattle.model.proofs.Choice.{lt-or-le}
 use Rattle.model.proofs.Signs.{subℕ-same, subℕ-chain, subℕ-swap}
 use Rattle.filter.specs.Sums.{scaled, quarterOf, halfOf}
@@ -78,14 +78,14 @@ module _ (p : List ℕ) (eight : length p ≡ 8) where
   sums : (ts : List ℤ) (a b : ℕ) → added ts p 3 + 32 ≡ a → taken ts p 3 ≡ b → filtered ts p 3 ≡ scaled a b
   sums ts a b e g = filtered-parts ts p 3 ∙ ap (λ (x : ℕ). scaled x (taken ts p 3)) e ∙ ap (scaled a) g
 
-  pub eight-first : filtered taps1 p 3 ≡ quarterOf (getD p 0 0) (getD p 1 0) (getD p 2 0) (getD p 3 0) (getD p 4 0) (getD p 5 0) (getD p 6 0)
+  pub eight-first : {s0 s1 s2 s3 s4 s5 s6 : ℕ} → s0 ≡ sampleIn p 0 → s1 ≡ sampleIn p 1 → s2 ≡ sampleIn p 2 → s3 ≡ sampleIn p 3 → s4 ≡ sampleIn p 4 → s5 ≡ sampleIn p 5 → s6 ≡ sampleIn p 6 → quarterOf s0 s1 s2 s3 s4 s5 s6 ≡ filtered taps1 p 3
   unfolding taps1 added taken repeated quarterOf
-  eight-first = sums taps1 _ _ (rw eight (omega arith)) (rw eight (omega arith))
+  eight-first e0 e1 e2 e3 e4 e5 e6 = rw (e0, e1, e2, e3, e4, e5, e6) (sym (sums taps1 _ _ (rw eight (omega arith)) (rw eight (omega arith))))
 
-  pub eight-half : filtered taps2 p 3 ≡ halfOf (getD p 0 0) (getD p 1 0) (getD p 2 0) (getD p 3 0) (getD p 4 0) (getD p 5 0) (getD p 6 0) (getD p 7 0)
+  pub eight-half : {s0 s1 s2 s3 s4 s5 s6 s7 : ℕ} → s0 ≡ sampleIn p 0 → s1 ≡ sampleIn p 1 → s2 ≡ sampleIn p 2 → s3 ≡ sampleIn p 3 → s4 ≡ sampleIn p 4 → s5 ≡ sampleIn p 5 → s6 ≡ sampleIn p 6 → s7 ≡ sampleIn p 7 → halfOf s0 s1 s2 s3 s4 s5 s6 s7 ≡ filtered taps2 p 3
   unfolding taps2 added taken repeated halfOf
-  eight-half = sums taps2 _ _ (rw eight (omega arith)) (rw eight (omega arith))
+  eight-half e0 e1 e2 e3 e4 e5 e6 e7 = rw (e0, e1, e2, e3, e4, e5, e6, e7) (sym (sums taps2 _ _ (rw eight (omega arith)) (rw eight (omega arith))))
 
-  pub eight-last : filtered taps3 p 3 ≡ quarterOf (getD p 7 0) (getD p 6 0) (getD p 5 0) (getD p 4 0) (getD p 3 0) (getD p 2 0) (getD p 1 0)
+  pub eight-last : {s0 s1 s2 s3 s4 s5 s6 : ℕ} → s0 ≡ sampleIn p 7 → s1 ≡ sampleIn p 6 → s2 ≡ sampleIn p 5 → s3 ≡ sampleIn p 4 → s4 ≡ sampleIn p 3 → s5 ≡ sampleIn p 2 → s6 ≡ sampleIn p 1 → quarterOf s0 s1 s2 s3 s4 s5 s6 ≡ filtered taps3 p 3
   unfolding taps3 added taken repeated quarterOf
-  eight-last = sums taps3 _ _ (rw eight (omega arith)) (rw eight (omega arith))
+  eight-last e0 e1 e2 e3 e4 e5 e6 = rw (e0, e1, e2, e3, e4, e5, e6) (sym (sums taps3 _ _ (rw eight (omega arith)) (rw eight (omega arith))))

@@ -9,11 +9,12 @@ use mathlib.Core.List.{List, [], _∷_, _++_, reverse, reverse-cons}
 use native.Mathlib.Omega.{arith}
 use lib.IntN.{ℤ, pos, _+ℤ_, _*ℤ_, +ℤ-assoc, +ℤ-comm, +ℤ-idl, +ℤ-idr}
 use lib.Signed.{shrZ}
-use lib.ListN.{length, getD, length-reverse}
-use Rattle.model.specs.Row.{taps1, taps2, taps3, repeated, weighted, clipped, filtered, mixed}
+use lib.ListN.{length, length-reverse}
+use Rattle.model.specs.Row.{sampleIn, taps1, taps2, taps3, repeated, weighted, clipped, filtered, mixed}
 use Rattle.model.specs.Views.{seen, entryOf}
 use Rattle.model.proofs.Choice.{lt-or-le}
-use Rattle.model.proofs.Views.{length-seen, getD-seen}
+use Rattle.model.proofs.Views.{length-seen}
+use Rattle.model.proofs.Readings.{sampleIn-seen}
 use Rattle.filter.proofs.Near.{by-step}
 
 weighted-append : (xs ys : List ℤ) (s : List ℕ) (i : ℕ) → weighted (xs ++ ys) s i ≡ weighted xs s i +ℤ weighted ys s (i + length xs)
@@ -67,8 +68,8 @@ module _ (s : List ℕ) (c : ℕ) (inside : c + 1 < length s) where
   unfolding repeated entryOf
   turned-at j h =
       rw (length-seen true s)
-      (getD-seen 0 true s (min (c + j - 3) (length s - 1)) (omega arith)
-      ∙ ap (λ (i : ℕ). getD s i 0) (turned-entry (length s) (c + j) (turned + (7 - j)) (omega arith) (omega arith)))
+      (sampleIn-seen true s (min (c + j - 3) (length s - 1)) (omega arith)
+      ∙ ap (sampleIn s) (turned-entry (length s) (c + j) (turned + (7 - j)) (omega arith) (omega arith)))
 
   -- a filter there is the filter with its taps in reverse here
   filtered-turned : (ts : List ℤ) → length ts ≡ 8 → filtered ts (seen true s) c ≡ filtered (reverse ts) s turned
@@ -78,11 +79,11 @@ module _ (s : List ℕ) (c : ℕ) (inside : c + 1 < length s) where
       (weighted-turned ts (seen true s) s c turned (λ j h. rw n (turned-at j (omega (arith, n)))))
 
   -- and a plain sample the one as far from the other end
-  plain-turned : (i j : ℕ) → i + j + 1 ≡ length s → getD (seen true s) i 0 ≡ getD s j 0
+  plain-turned : (i j : ℕ) → i + j + 1 ≡ length s → sampleIn (seen true s) i ≡ sampleIn s j
   unfolding entryOf
   plain-turned i j e =
       let q : length s - 1 - i ≡ j = omega arith in
-      getD-seen 0 true s i (omega arith) ∙ ap (λ (n : ℕ). getD s n 0) q
+      sampleIn-seen true s i (omega arith) ∙ ap (sampleIn s) q
 
   pub mixed-turned : (k : ℕ) → k ≤ 4 → mixed (seen true s) c k ≡ mixed s turned (4 - k)
   unfolding mixed taps1 taps2 taps3

@@ -3,7 +3,7 @@
 use Prim.Native.Nat.{ℕ, _+_, _-_, _*_, _/_, min}
 use Rattle.model.specs.Row.{greatest}
 
--- divided by 64 rounding down, held to 0 to 255
+-- divided by 64 rounding down, held to 0 to 1,023
 unfoldable pub scaled : ℕ → ℕ → ℕ
 scaled added taken = min ((added - taken) / 64) greatest
 

@@ -1,4 +1,5 @@
-// The sample between two neighbouring ones of a row, by the H.265 luma filters of document 02, card 2.
+// The sample between two neighbouring ones of a row, by the H.265 luma filters of document 02, card 2. Samples are loaded here and then read: lent
+// to another function for that, the slice would have to stand in memory.
 ghost use mathlib.Core.Path.{_≡_};
 ghost use Prim.Native.Nat.{_+_, _-_, _<_, _≤_, min};
 ghost use lib.ListN.{length};
@@ -6,18 +7,18 @@ ghost use Rattle.model.specs.Row.{repeated, mixed};
 ghost use Rattle.filter.specs.Sums.{scaled, quarterOf, halfOf};
 
 // What is added less what is taken away, divided by 64 and held to a sample.
-fn scale(added: u32, taken: u32) -> u8
+fn scale(added: u32, taken: u32) -> u16
     ensures { λ r. ⌜ r ≡ scaled added taken ⌝ }
 {
     if added < taken {
         return 0;
     }
     let n = (added - taken) / 64;
-    if n < 255 { n as u8 } else { 255 }
+    if n < 1023 { n as u16 } else { 1023 }
 }
 
 // A quarter of the way from s3 to s4.
-fn quarter_of(s0: u8, s1: u8, s2: u8, s3: u8, s4: u8, s5: u8, s6: u8) -> u8
+fn quarter_of(s0: u16, s1: u16, s2: u16, s3: u16, s4: u16, s5: u16, s6: u16) -> u16
     ensures { λ r. ⌜ r ≡ quarterOf s0 s1 s2 s3 s4 s5 s6 ⌝ }
 {
     let added = 4 * s1 as u32 + 58 * s3 as u32 + 17 * s4 as u32 + s6 as u32 + 32;
@@ -26,7 +27,7 @@ fn quarter_of(s0: u8, s1: u8, s2: u8, s3: u8, s4: u8, s5: u8, s6: u8) -> u8
 }
 
 // Half of the way from s3 to s4.
-fn half_of(s0: u8, s1: u8, s2: u8, s3: u8, s4: u8, s5: u8, s6: u8, s7: u8) -> u8
+fn half_of(s0: u16, s1: u16, s2: u16, s3: u16, s4: u16, s5: u16, s6: u16, s7: u16) -> u16
     ensures { λ r. ⌜ r ≡ halfOf s0 s1 s2 s3 s4 s5 s6 s7 ⌝ }
 {
     let added = 4 * (s1 as u32 + s6 as u32) + 40 * (s3 as u32 + s4 as u32) + 32;
@@ -35,43 +36,43 @@ fn half_of(s0: u8, s1: u8, s2: u8, s3: u8, s4: u8, s5: u8, s6: u8, s7: u8) -> u8
 }
 
 // The sample k quarters of the way from the fourth of eight samples to the fifth.
-fn inner(near: &[u8], k: u32) -> u8
+fn inner(near: &[u16], k: u32) -> u16
     requires { ⌜ (1 ≤ k) × (k ≤ 3) ⌝ }
     requires { ⌜ length (now near) ≡ 8 ⌝ }
     ensures { λ r. ⌜ r ≡ mixed (now (near .entry)) 3 k ⌝ }
 {
     if k == 1 {
         return quarter_of(
-            near[0],
-            near[1],
-            near[2],
-            near[3],
-            near[4],
-            near[5],
-            near[6],
+            model::read(near[0]),
+            model::read(near[1]),
+            model::read(near[2]),
+            model::read(near[3]),
+            model::read(near[4]),
+            model::read(near[5]),
+            model::read(near[6]),
         );
     }
     if k == 2 {
         return half_of(
-            near[0],
-            near[1],
-            near[2],
-            near[3],
-            near[4],
-            near[5],
-            near[6],
-            near[7],
+            model::read(near[0]),
+            model::read(near[1]),
+            model::read(near[2]),
+            model::read(near[3]),
+            model::read(near[4]),
+            model::read(near[5]),
+            model::read(near[6]),
+            model::read(near[7]),
         );
     }
     // the same taps as a quarter of the way, read backwards
     quarter_of(
-        near[7],
-        near[6],
-        near[5],
-        near[4],
-        near[3],
-        near[2],
-        near[1],
+        model::read(near[7]),
+        model::read(near[6]),
+        model::read(near[5]),
+        model::read(near[4]),
+        model::read(near[3]),
+        model::read(near[2]),
+        model::read(near[1]),
     )
 }
 
@@ -87,15 +88,15 @@ fn column_at(i: usize, w: usize) -> usize
 }
 
 // The sample of column i − 3, ends repeated.
-fn repeated_at(row: &[u8], i: usize) -> u8
+fn repeated_at(row: &[u16], i: usize) -> u16
     requires { ⌜ 0 < length (now row) ⌝ }
     ensures { λ r. ⌜ r ≡ repeated (now (row .entry)) i ⌝ }
 {
-    row[column_at(i, row.len())]
+    model::read(row[column_at(i, row.len())])
 }
 
 // The sample k quarters of the way from column c to the next, where some of the eight samples lie past an end of the row.
-fn outer(row: &[u8], c: usize, k: u32) -> u8
+fn outer(row: &[u16], c: usize, k: u32) -> u16
     requires { ⌜ (1 ≤ k) × (k ≤ 3) ⌝ }
     requires { ⌜ (c < length (now row)) × (length (now row) ≤ 4096) ⌝ }
     ensures { λ r. ⌜ r ≡ mixed (now (row .entry)) c k ⌝ }
@@ -114,16 +115,16 @@ fn outer(row: &[u8], c: usize, k: u32) -> u8
 }
 
 // The sample k quarters of the way from column c to the next.
-pub fn between(row: &[u8], c: usize, k: u32) -> u8
+pub fn between(row: &[u16], c: usize, k: u32) -> u16
     requires { ⌜ k ≤ 4 ⌝ }
     requires { ⌜ (c + 1 < length (now row)) × (length (now row) ≤ 4096) ⌝ }
     ensures { λ r. ⌜ r ≡ mixed (now (row .entry)) c k ⌝ }
 {
     if k == 0 {
-        return row[c];
+        return model::read(row[c]);
     }
     if 3 < k {
-        return row[c + 1];
+        return model::read(row[c + 1]);
     }
     if 3 <= c {
         if c + 4 < row.len() {

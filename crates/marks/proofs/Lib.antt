@@ -3,3 +3,4 @@ pub mod Bits
 pub mod Puts
 pub mod Words
 pub mod Counts
+pub mod Held

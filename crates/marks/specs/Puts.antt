@@ -3,7 +3,7 @@ use Prim.Native.Nat.{ℕ, zero, suc, _+_, _-_, _*_, _/_, _%_, _^_}
 use mathlib.Core.List.{List}
 use lib.ListN.{getD, set}
 use Rattle.model.specs.declared.Pixel.{Pixel}
-use Rattle.model.specs.Row.{pixel}
+use Rattle.model.specs.Row.{pixel, sampleIn}
 use Rattle.model.specs.Marks.{markAt}
 
 -- a byte with v in its bit k
@@ -19,6 +19,6 @@ unfoldable pub putMarks : List ℕ → ℕ → List ℕ → ℕ → List ℕ
 putMarks row start ms zero = row
 putMarks row start ms (suc n) = setMark (putMarks row start ms n) (start + n) (getD ms n 0)
 
--- what a view holds at entry i of a row
+-- what a view holds at entry i of a row, its sample as it is read
 unfoldable pub heldPixel : List ℕ → List ℕ → List ℕ → ℕ → Pixel
-heldPixel samples fronts marks i = pixel (getD samples i 0) (markAt marks i) (getD fronts i 0)
+heldPixel samples fronts marks i = pixel (sampleIn samples i) (markAt marks i) (getD fronts i 0)

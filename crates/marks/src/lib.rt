@@ -15,13 +15,13 @@ pub fn mark_at(row: &[u8], p: usize) -> u8
     (row[p / 8] >> (p % 8)) % 2
 }
 
-// What a view holds at entry i of a row: sample, mark and front depth.
-pub fn held_pixel(samples: &[u8], fronts: &[u8], marks: &[u8], i: usize) -> Pixel
+// What a view holds at entry i of a row: sample, as it is read, mark and front depth.
+pub fn held_pixel(samples: &[u16], fronts: &[u8], marks: &[u8], i: usize) -> Pixel
     requires { ⌜ (i < length (now samples)) × ((i < length (now fronts)) × (i < 8 * length (now marks))) ⌝ }
     ensures { λ r. ⌜ r ≡ heldPixel (now (samples .entry)) (now (fronts .entry)) (now (marks .entry)) i ⌝ }
 {
     Pixel {
-        sample: samples[i],
+        sample: model::sample_in(samples, i),
         mark: mark_at(marks, i),
         front: fronts[i],
     }

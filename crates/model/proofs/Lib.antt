@@ -15,4 +15,5 @@ pub mod Locality
 pub mod Refusals
 pub mod Pairs
 pub mod Reports
+pub mod Readings
 pub mod Promises

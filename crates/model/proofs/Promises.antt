@@ -18,7 +18,8 @@ use Rattle.model.specs.Refusals.{numberOf, earlyNumber, callNumber}
 use Rattle.model.specs.Promises.{Sound, SetPost}
 use Rattle.model.proofs.Choice.{bool-cases}
 use Rattle.model.proofs.Fresh.{fresh-total, freshTotal-total}
-use Rattle.model.proofs.Refusals.{call-early, total-change}
+use Rattle.model.proofs.Refusals.{Common, common-facts, early-common, call-early, total-change}
+use Rattle.model.proofs.Readings.{sound-read}
 
 pub call-zero : (s : Settings) (p : Pictures) (d : Depths) (h : Held) (v : ℕ) (b : Block) (n : ℕ) (x : ℤ) → callNumber s p d h v b n x ≡ 0 → earlyNumber s p d h v b n ≡ 0
 call-zero s p d h v b n x e =
@@ -31,11 +32,12 @@ module _ (s : Settings) (p : Pictures) (d₀ d : Depths) (h₀ h : Held) (v : �
   unfolding changeOf
   set-settings =
       let early = call-zero s p d₀ h₀ v b (length c) (post .found) (sym (post .number) ∙ accepted) in
-      let f : pos (s .total) +ℤ post .found ≡ pos (freshTotal s p (written s v b c d₀)) =
-      ap (λ (x : ℤ). pos (s .total) +ℤ x) (post .decided early sound)
+      let f = common-facts s p d₀ h₀ (early-common s p d₀ h₀ v b (length c) early) in
+      let e : pos (s .total) +ℤ post .found ≡ pos (freshTotal s p (written s v b c d₀)) =
+      ap (λ (x : ℤ). pos (s .total) +ℤ x) (post .decided early (sound-read s p d₀ (f .depths) (f .share) h₀ sound))
       ∙ ap (λ (t : ℕ). pos t +ℤ (pos (freshTotal s p (written s v b c d₀)) -ℤ pos (freshTotal s p d₀))) (sound .total)
       ∙ total-change (freshTotal s p d₀) (freshTotal s p (written s v b c d₀)) in
-      post .settings accepted ∙ ap (λ (x : ℤ). withTotal s (natAbs x)) f
+      post .settings accepted ∙ ap (λ (x : ℤ). withTotal s (natAbs x)) e
 
   pub set-sound : Sound (r .settings) p d h
   set-sound =

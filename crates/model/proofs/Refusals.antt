@@ -20,7 +20,7 @@ use Rattle.model.specs.declared.Block.{Block}
 use Rattle.model.specs.Marks.{markBytes}
 use Rattle.model.specs.Combined.{worst}
 use Rattle.model.specs.Planes.{Pictures, Depths, View, Held, area, withTotal}
-use Rattle.model.specs.Refusals.{unless, sideOk, sizeOk, picturesSized, depthsSized, viewSized, heldSized, planesSized, tableOk, tablesOk, shareOk, blockOk, viewOk, candidateOk, within, inRange, commonThen, ownThen, earlyNumber, callNumber}
+use Rattle.model.specs.Refusals.{unless, sideOk, sizeOk, picturesSized, depthsSized, viewSized, heldSized, planesSized, upTo, tableOk, tablesOk, shareOk, blockOk, viewOk, candidateOk, within, inRange, picturesOk, commonThen, ownThen, openNumber, earlyNumber, callNumber}
 use Rattle.model.proofs.Choice.{bool-cases, and-true, and-left, and-right}
 use Rattle.model.proofs.Fresh.{DepthsOf}
 
@@ -134,17 +134,23 @@ held-facts n m h e =
       combined = eqb-true _ _ (and-right (viewSized n m (h .right)) _ e₁);
     }
 
--- a table whose entries are at most 1,023
+-- a table or a picture whose entries are at most n
+pub up-to-most : (n : ℕ) (t : List ℕ) → upTo n t ≡ true → (i : ℕ) → getD t i 0 ≤ n
+unfolding upTo
+up-to-most n [] e i = omega arith
+up-to-most n (x ∷ xs) e zero = leb-true x n (and-left (leb x n) _ e)
+up-to-most n (x ∷ xs) e (suc i) = up-to-most n xs (and-right (leb x n) _ e) i
+
+pub up-to-yes : (n : ℕ) (t : List ℕ) → ((i : ℕ) → getD t i 0 ≤ n) → upTo n t ≡ true
+unfolding upTo
+up-to-yes n [] h = refl
+up-to-yes n (x ∷ xs) h = and-true _ _ (le-leb x n (h zero)) (up-to-yes n xs (λ i. h (suc i)))
+
 pub table-most : (t : List ℕ) → tableOk t ≡ true → (i : ℕ) → getD t i 0 ≤ 1023
-unfolding tableOk
-table-most [] e i = omega arith
-table-most (x ∷ xs) e zero = leb-true x 1023 (and-left (leb x 1023) _ e)
-table-most (x ∷ xs) e (suc i) = table-most xs (and-right (leb x 1023) _ e) i
+table-most t e i = up-to-most 1023 t e i
 
 pub table-yes : (t : List ℕ) → ((i : ℕ) → getD t i 0 ≤ 1023) → tableOk t ≡ true
-unfolding tableOk
-table-yes [] h = refl
-table-yes (x ∷ xs) h = and-true _ _ (le-leb x 1023 (h zero)) (table-yes xs (λ i. h (suc i)))
+table-yes t h = up-to-yes 1023 t h
 
 pub record Tables (s : Settings) : Type 0 where
   pub left : (i : ℕ) → getD (s .left) i 0 ≤ 1023
@@ -320,15 +326,26 @@ module _ (s : Settings) (p : Pictures) (d : Depths) (h : Held) where
   unfolding commonThen
   common-stays rest ne = four-stays (sizeOk s) (planesSized s p d h) (tablesOk s) (shareOk s) rest ne
 
+  -- OPEN's 21 comes last
+  pub open-stays : (commonThen s p d h 0 ≡ 0 → ⊥) → openNumber s p d h ≡ commonThen s p d h 0
+  open-stays ne = common-stays (unless (picturesOk p) 21 0) ne
+
+  -- what is not refused has passed the common tests, and then the rest
+  pub common-passed : (rest : ℕ) → commonThen s p d h rest ≡ 0 → commonThen s p d h 0 ≡ 0
+  common-passed rest e =
+      bool-cases (eqb (commonThen s p d h 0) 0) (λ t. eqb-true _ _ t)
+      (λ f. let ne = eqb-false (commonThen s p d h 0) 0 f in sym (common-stays rest ne) ∙ e)
+
+  pub rest-passed : (rest : ℕ) → commonThen s p d h rest ≡ 0 → rest ≡ 0
+  rest-passed rest e = sym (common-rest rest (common-passed rest e)) ∙ e
+
   module _ (v : ℕ) (b : Block) (n : ℕ) where
     -- a call with no early refusal has passed the common tests, and its own
     pub early-common : earlyNumber s p d h v b n ≡ 0 → commonThen s p d h 0 ≡ 0
-    early-common e =
-        bool-cases (eqb (commonThen s p d h 0) 0) (λ t. eqb-true _ _ t)
-        (λ f. let ne = eqb-false (commonThen s p d h 0) 0 f in sym (common-stays (ownThen s v b n 0) ne) ∙ e)
+    early-common e = common-passed (ownThen s v b n 0) e
 
     pub early-own : earlyNumber s p d h v b n ≡ 0 → ownThen s v b n 0 ≡ 0
-    early-own e = sym (common-rest _ (early-common e)) ∙ e
+    early-own e = rest-passed (ownThen s v b n 0) e
 
     -- with no early refusal, 8 decides
     pub call-late : (x : ℤ) → earlyNumber s p d h v b n ≡ 0 → callNumber s p d h v b n x ≡ unless (inRange s x) 8 0

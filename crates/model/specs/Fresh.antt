@@ -7,7 +7,7 @@ use lib.ListN.{getD}
 use Rattle.model.specs.declared.Settings.{Settings}
 use Rattle.model.specs.declared.Pixel.{Pixel}
 use Rattle.model.specs.Lists.{listOf, rows, rowOf, sumTo}
-use Rattle.model.specs.Row.{Line, line, Row, pixel}
+use Rattle.model.specs.Row.{Line, line, Row, pixel, sampleIn}
 use Rattle.model.specs.Views.{viewRow}
 use Rattle.model.specs.Marks.{markBytes, packRow}
 use Rattle.model.specs.Combined.{combinedOf, squareError}
@@ -49,9 +49,9 @@ freshCombined s p d = rows (λ y. listOf (freshSample s p d y) (s .w)) (s .h)
 unfoldable pub fresh : Settings → Pictures → Depths → Held
 fresh s p d = held (freshView s p d false) (freshView s p d true) (freshCombined s p d)
 
--- The total is the sum over all positions of (combined − reference)².
+-- The total is the sum over all positions of (combined − reference)², the reference as it is read.
 unfoldable pub totalOf : List ℕ → List ℕ → ℕ → ℕ
-totalOf combined reference n = sumTo (λ i. squareError (getD combined i 0) (getD reference i 0)) n
+totalOf combined reference n = sumTo (λ i. squareError (getD combined i 0) (sampleIn reference i)) n
 
 unfoldable pub freshTotal : Settings → Pictures → Depths → ℕ
 freshTotal s p d = totalOf (freshCombined s p d) (p .reference) (area s)

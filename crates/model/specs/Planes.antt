@@ -3,8 +3,10 @@ use Prim.Native.Nat.{ℕ, _*_}
 use mathlib.Core.Bool.{Bool, cond}
 use mathlib.Core.List.{List}
 use lib.IntN.{ℤ}
+use lib.ListN.{length}
 use Rattle.model.specs.declared.Settings.{Settings}
-use Rattle.model.specs.Lists.{rowOf}
+use Rattle.model.specs.Lists.{listOf, rowOf}
+use Rattle.model.specs.Row.{sampleIn}
 use Rattle.model.specs.Marks.{markBytes}
 
 -- Read only: two textures and a reference.
@@ -65,6 +67,17 @@ strip samples marks fronts = record { samples = samples; marks = marks; fronts =
 abbrev pub withTotal : Settings → ℕ → Settings
 withTotal s t =
     record { w = s .w; h = s .h; left = s .left; right = s .right; share = s .share; tolerance = s .tolerance; total = t }
+
+-- Document 02, card 12: a plane of samples as it is read, and what is held as GET and SET read it. Where no sample is above the greatest, as in
+-- what OPEN and SET make, that is what stands there (proofs/Readings).
+unfoldable pub readAll : List ℕ → List ℕ
+readAll l = listOf (sampleIn l) (length l)
+
+abbrev pub readView : View → View
+readView v = view (readAll (v .samples)) (v .fronts) (v .limits) (v .marks)
+
+unfoldable pub readHeld : Held → Held
+readHeld h = held (readView (h .left)) (readView (h .right)) (readAll (h .combined))
 
 -- what belongs to a view: its table, its texture, its depths, its held planes
 abbrev pub tableOf : Settings → Bool → List ℕ

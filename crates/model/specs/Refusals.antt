@@ -8,9 +8,10 @@ use lib.Dec.{leb, eqb}
 use Rattle.model.specs.declared.Settings.{Settings}
 use Rattle.model.specs.declared.Block.{Block}
 use Rattle.model.specs.declared.Refusal.{Refusal}
-use Rattle.model.specs.declared.Refusal.the-variants.{None, Size, Plane, Table, Share, Bounds, View, Candidate, Total}
+use Rattle.model.specs.declared.Refusal.the-variants.{None, Size, Plane, Table, Share, Bounds, View, Candidate, Total, Sample}
 use Rattle.model.specs.declared.Report.{Report}
 use Rattle.model.specs.declared.Count.{Count}
+use Rattle.model.specs.Row.{greatest}
 use Rattle.model.specs.Marks.{markBytes}
 use Rattle.model.specs.Combined.{worst}
 use Rattle.model.specs.Planes as planes
@@ -27,6 +28,7 @@ numberOf Bounds = 5
 numberOf View = 6
 numberOf Candidate = 7
 numberOf Total = 8
+numberOf Sample = 21
 
 -- the same of what CHECK answers, and of what HOLES answers
 abbrev pub reportNumber : Report → ℕ
@@ -69,10 +71,14 @@ unfoldable pub planesSized : Settings → Pictures → Depths → Held → Bool
 planesSized s p d h =
     picturesSized (area s) p && (depthsSized (area s) d && heldSized (area s) (markBytes (s .w) * s .h) h)
 
+-- no entry is above `most`
+unfoldable pub upTo : ℕ → List ℕ → Bool
+upTo most [] = true
+upTo most (x ∷ xs) = leb x most && upTo most xs
+
 -- 3: an entry of either table above 1,023
-unfoldable pub tableOk : List ℕ → Bool
-tableOk [] = true
-tableOk (x ∷ xs) = leb x 1023 && tableOk xs
+abbrev pub tableOk : List ℕ → Bool
+tableOk t = upTo 1023 t
 
 unfoldable pub tablesOk : Settings → Bool
 tablesOk s = tableOk (s .left) && tableOk (s .right)
@@ -94,13 +100,20 @@ viewOk v = leb v 1
 abbrev pub candidateOk : Block → ℕ → Bool
 candidateOk b n = eqb n (b .width * b .height)
 
--- 8: held total plus change below 0 or above 65,025 × w × h
+-- 8: held total plus change below 0 or above 1,046,529 × w × h
 abbrev pub within : ℤ → ℕ → Bool
 within (pos n) most = leb n most
 within (negsuc n) most = false
 
 unfoldable pub inRange : Settings → ℤ → Bool
 inRange s change = within (pos (s .total) +ℤ change) (worst * area s)
+
+-- 21: an entry of a texture or of the reference above 1,023
+abbrev pub pictureOk : List ℕ → Bool
+pictureOk p = upTo greatest p
+
+unfoldable pub picturesOk : Pictures → Bool
+picturesOk p = pictureOk (p .left) && (pictureOk (p .right) && pictureOk (p .reference))
 
 -- 1, 2, 3, 4, then the rest of the call's list
 unfoldable pub commonThen : Settings → Pictures → Depths → Held → ℕ → ℕ
@@ -110,10 +123,11 @@ commonThen s p d h rest = unless (sizeOk s) 1 (unless (planesSized s p d h) 2 (u
 unfoldable pub ownThen : Settings → ℕ → Block → ℕ → ℕ → ℕ
 ownThen s v b n rest = unless (viewOk v) 6 (unless (blockOk s b) 5 (unless (candidateOk b n) 7 rest))
 
--- OPEN refuses 1, 2, 3, 4, and so does CHECK.
+-- OPEN refuses 1, 2, 3, 4, then 21.
 abbrev pub openNumber : Settings → Pictures → Depths → Held → ℕ
-openNumber s p d h = commonThen s p d h 0
+openNumber s p d h = commonThen s p d h (unless (picturesOk p) 21 0)
 
+-- CHECK refuses 1, 2, 3, 4.
 abbrev pub checkNumber : Settings → Pictures → Depths → Held → ℕ
 checkNumber s p d h = commonThen s p d h 0
 

@@ -14,7 +14,7 @@ use Rattle.model.specs.Marks.{markBytes, markAt, spareBits}
 use Rattle.model.specs.Planes.{Pictures, Depths, View, Held, area}
 use Rattle.model.specs.Fresh.{fresh, freshTotal}
 
--- the two entries k of two planes are equal
+-- the two entries k of two planes are equal, as they stand (document 02, card 12)
 abbrev pub sameEntry : List ℕ → List ℕ → ℕ → Bool
 sameEntry a b k = eqb (getD a k 0) (getD b k 0)
 

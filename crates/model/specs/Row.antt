@@ -1,4 +1,4 @@
--- Document 01, "One row of the left view", with the filter of document 02, card 2, and the near edges of card 7.
+-- Document 01, "One row of the left view", with the filter of document 02, card 2, the near edges of card 7 and the ten bits of card 12.
 --
 -- A place, 4 × c − table[d] in quarters, may be as low as −1,023. Here every number of quarters is kept as a natural number,
 -- raised by 1,024, and `signed` takes that away again. The laws of proofs/Signs show that nothing is lost by it:
@@ -71,11 +71,21 @@ kindOf gap = cond (ltZ gap (pos 1)) Hidden (cond (ltZ gap (pos 9)) Smooth Torn)
 unfoldable pub stepOf : ℕ → ℕ → ℕ
 stepOf t gap = (8 * t + gap) / (2 * gap)
 
--- ---- Card 2: quarter positions by the HEVC filter
+-- ---- Card 12: ten-bit pictures
 
 -- the greatest sample
 abbrev pub greatest : ℕ
-greatest = 255
+greatest = 1023
+
+-- A higher entry is read as the greatest sample.
+unfoldable pub read : ℕ → ℕ
+read x = min x greatest
+
+-- the sample of column c, as it is read
+unfoldable pub sampleIn : List ℕ → ℕ → ℕ
+sampleIn s c = read (getD s c 0)
+
+-- ---- Card 2: quarter positions by the HEVC filter
 
 -- −n
 abbrev pub neg : ℕ → ℤ
@@ -93,19 +103,19 @@ taps3 = pos 0 ∷ pos 1 ∷ neg 5 ∷ pos 17 ∷ pos 58 ∷ neg 10 ∷ pos 4 ∷
 
 -- The sample of column i − 3, ends repeated: below column 0 the naturals' difference is 0, past the last column the lesser is the last.
 unfoldable pub repeated : List ℕ → ℕ → ℕ
-repeated s i = getD s (min (i - 3) (length s - 1)) 0
+repeated s i = sampleIn s (min (i - 3) (length s - 1))
 
 -- taps times samples from column i − 3 on, added up
 unfoldable pub weighted : List ℤ → List ℕ → ℕ → ℤ
 weighted [] s i = pos 0
 weighted (t ∷ ts) s i = t *ℤ pos (repeated s i) +ℤ weighted ts s (suc i)
 
--- held to 0 to 255
+-- held to 0 to 1,023
 abbrev pub clipped : ℤ → ℕ
 clipped (pos n) = min n greatest
 clipped (negsuc n) = 0
 
--- The sum from column c − 3 on, plus 32, divided by 64 rounding down (`shrZ`), held to 0 to 255.
+-- The sum from column c − 3 on, plus 32, divided by 64 rounding down (`shrZ`), held to 0 to 1,023.
 unfoldable pub filtered : List ℤ → List ℕ → ℕ → ℕ
 filtered taps s c = clipped (shrZ (weighted taps s c +ℤ pos 32) 64)
 
@@ -115,14 +125,14 @@ mixed s c k =
     cond (eqb k 1) (filtered taps1 s c)
     (cond (eqb k 2) (filtered taps2 s c)
     (cond (eqb k 3) (filtered taps3 s c)
-    (cond (eqb k 0) (getD s c 0) (getD s (c + 1) 0))))
+    (cond (eqb k 0) (sampleIn s c) (sampleIn s (c + 1)))))
 
 abbrev pub pixel : ℕ → ℕ → ℕ → Pixel
 pixel sample mark front = record { sample = sample; mark = mark; front = front }
 
 -- column c's own sample and depth, with a mark
 abbrev pub plain : Line → ℕ → ℕ → Pixel
-plain l c mark = pixel (getD (l .texture) c 0) mark (getD (l .depths) c 0)
+plain l c mark = pixel (sampleIn (l .texture) c) mark (getD (l .depths) c 0)
 
 -- Smooth: the mixed sample, mark 0, front depth d[c].
 unfoldable pub smoothPixel : Line → ℕ → ℕ → ℕ → Pixel

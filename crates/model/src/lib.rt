@@ -1,5 +1,8 @@
-// The types that every entry of the library shares.
+// The types that every entry of the library shares, and how a sample is read.
 ghost use mathlib.Core.Path.{_≡_};
+ghost use Prim.Native.Nat.{_<_, _≤_};
+ghost use lib.ListN.{length};
+ghost use Rattle.model.specs.Row.{greatest, read, sampleIn};
 ghost use Rattle.model.specs.Refusals.{numberOf};
 
 // The settings of a session, passed and answered by value. `left` and `right` are the two tables of disparities in quarter samples.
@@ -32,7 +35,7 @@ pub enum Kind {
 
 // What a view shows at a position: its sample, its hole mark (0 or 1) and its front depth.
 pub struct Pixel {
-    pub sample: u8,
+    pub sample: u16,
     pub mark: u8,
     pub front: u8,
 }
@@ -48,6 +51,7 @@ pub enum Refusal {
     View,
     Candidate,
     Total,
+    Sample,
 }
 
 // What OPEN answers.
@@ -97,5 +101,21 @@ pub fn number(refusal: Refusal) -> u32
         Refusal::View => 6,
         Refusal::Candidate => 7,
         Refusal::Total => 8,
+        Refusal::Sample => 21,
     }
+}
+
+// An entry as it is read: above the greatest sample, as that.
+pub fn read(entry: u16) -> u16
+    ensures { λ r. ⌜ (r ≡ read entry) × (r ≤ greatest) ⌝ }
+{
+    if entry < 1023 { entry } else { 1023 }
+}
+
+// The sample at entry i of a row, as it is read.
+pub fn sample_in(row: &[u16], i: usize) -> u16
+    requires { ⌜ i < length (now row) ⌝ }
+    ensures { λ r. ⌜ (r ≡ sampleIn (now (row .entry)) i) × (r ≤ greatest) ⌝ }
+{
+    read(row[i])
 }

@@ -54,10 +54,10 @@ module _ (s : Settings) (p : Pictures) (d : Depths) (g : Held) (total : ℕ) (c 
 
   pub filled-fresh : g ≡ fresh s p d
   unfolding fresh
-  filled-fresh = rw (← left-is, ← right-is, ← picture-whole s p d (c .depths) (g .combined) total (c .held .combined) picture-is)
+  filled-fresh = rw (← left-is, ← right-is, ← picture-whole s p d (c .depths) (c .share) (g .combined) total (c .held .combined) picture-is)
 
   pub filled-total : total ≡ freshTotal s p d
-  filled-total = total-whole s p d (c .depths) (g .combined) total (c .held .combined) picture-is
+  filled-total = total-whole s p d (c .depths) (c .share) (g .combined) total (c .held .combined) picture-is
 
 -- planes that kept their lengths have passed the same tests
 pub common-kept :

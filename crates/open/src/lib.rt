@@ -9,7 +9,9 @@ ghost use mathlib.Core.Bool.{false, true};
 ghost use Prim.Native.Nat.{_*_, _≤_, _<_};
 ghost use lib.ListN.{length};
 ghost use Rattle.model.specs.Planes.{pictures, depths, view, held};
+ghost use Rattle.model.specs.Refusals.{numberOf, unless, picturesOk};
 ghost use Rattle.model.specs.Promises.{OpenPost};
+ghost use Rattle.validate.specs.Numbers.{commonNumber};
 ghost use Rattle.draw.specs.Drawn.{Table, PlanesOf};
 ghost use Rattle.open.specs.Filled.{Filled};
 
@@ -21,20 +23,20 @@ fn fill(
     tolerance: u8,
     w: usize,
     h: usize,
-    left: &[u8],
-    right: &[u8],
-    reference: &[u8],
+    left: &[u16],
+    right: &[u16],
+    reference: &[u16],
     leftDepths: &[u8],
     rightDepths: &[u8],
-    leftSamples: &mut [u8],
+    leftSamples: &mut [u16],
     leftFronts: &mut [u8],
     leftLimits: &mut [i16],
     leftMarks: &mut [u8],
-    rightSamples: &mut [u8],
+    rightSamples: &mut [u16],
     rightFronts: &mut [u8],
     rightLimits: &mut [i16],
     rightMarks: &mut [u8],
-    combined: &mut [u8],
+    combined: &mut [u16],
 ) -> u64
     requires { ⌜ (Table (now leftTable)) × ((Table (now rightTable)) × (share ≤ 64)) ⌝ }
     requires { ⌜ (0 < w) × ((w ≤ 4096) × (h ≤ 4096)) ⌝ }
@@ -88,23 +90,62 @@ fn fill(
     )
 }
 
+// No entry of a picture is above the greatest sample.
+fn pictures_ok(left: &[u16], right: &[u16], reference: &[u16]) -> bool
+    ensures { λ r. ⌜ r ≡ picturesOk (pictures (now (left .entry)) (now (right .entry)) (now (reference .entry))) ⌝ }
+{
+    if !validate::picture_ok(left) {
+        return false;
+    }
+    if !validate::picture_ok(right) {
+        return false;
+    }
+    validate::picture_ok(reference)
+}
+
+// 1, 2, 3, 4 or 21, the first that applies.
+fn refusal_of(
+    w: u32,
+    h: u32,
+    leftTable: &[u16; 256],
+    rightTable: &[u16; 256],
+    share: u8,
+    lengths: Lengths,
+    left: &[u16],
+    right: &[u16],
+    reference: &[u16],
+) -> Refusal
+    ensures { λ r. ⌜ numberOf r ≡ commonNumber w h (now (leftTable .entry)) (now (rightTable .entry)) share lengths
+        (unless (picturesOk (pictures (now (left .entry)) (now (right .entry)) (now (reference .entry)))) 21 0) ⌝ }
+{
+    let first = validate::common(w, h, leftTable, rightTable, share, lengths);
+    if model::number(first) != 0 {
+        return first;
+    }
+    if pictures_ok(left, right, reference) {
+        Refusal::None
+    } else {
+        Refusal::Sample
+    }
+}
+
 // OPEN fills all held planes from the pictures and depths, and answers the settings with the total; a total passed in is ignored.
 pub fn open(
     settings: Settings,
-    left: &[u8],
-    right: &[u8],
-    reference: &[u8],
+    left: &[u16],
+    right: &[u16],
+    reference: &[u16],
     leftDepths: &[u8],
     rightDepths: &[u8],
-    leftSamples: &mut [u8],
+    leftSamples: &mut [u16],
     leftFronts: &mut [u8],
     leftLimits: &mut [i16],
     leftMarks: &mut [u8],
-    rightSamples: &mut [u8],
+    rightSamples: &mut [u16],
     rightFronts: &mut [u8],
     rightLimits: &mut [i16],
     rightMarks: &mut [u8],
-    combined: &mut [u8],
+    combined: &mut [u16],
 ) -> Opened
     ensures { λ r. ⌜ OpenPost settings (pictures (now (left .entry)) (now (right .entry)) (now (reference .entry))) (depths (now (leftDepths .entry)) (now (rightDepths .entry)))
         (held (view (now (leftSamples .entry)) (now (leftFronts .entry)) (now (leftLimits .entry)) (now (leftMarks .entry)))
@@ -114,7 +155,7 @@ pub fn open(
 {
     let leftTable = settings.left;
     let rightTable = settings.right;
-    let refusal = validate::common(
+    let refusal = refusal_of(
         settings.w,
         settings.h,
         &leftTable,
@@ -140,6 +181,9 @@ pub fn open(
             reference: reference.len(),
             combined: combined.len(),
         },
+        left,
+        right,
+        reference,
     );
     if model::number(refusal) != 0 {
         return Opened {

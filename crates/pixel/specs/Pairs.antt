@@ -8,7 +8,7 @@ use lib.ListN.{length, getD}
 use lib.Dec.{leb, ltb}
 use lib.IntN.{subℕ}
 use Rattle.model.specs.declared.Pixel.{Pixel}
-use Rattle.model.specs.Row.{Line, quarter, place, kindOf, stepOf, mixed, pixel, plain, byKind, ownedPixel}
+use Rattle.model.specs.Row.{Line, quarter, place, sampleIn, kindOf, stepOf, mixed, pixel, plain, byKind, ownedPixel}
 use Rattle.model.specs.Views.{entryOf}
 use Rattle.pixel.specs.declared.Edge.{Edge}
 use Rattle.pixel.specs.declared.Pair.{Pair}
@@ -37,14 +37,14 @@ reached x m = cond (leb m x) 1 0
 
 -- the pair's own sample and depth, with a mark; s is the texture as the view reads it
 abbrev pub plainOf : List ℕ → Pair → ℕ → Pixel
-plainOf s q mark = pixel (getD s (q .column) 0) mark (q .d0)
+plainOf s q mark = pixel (sampleIn s (q .column)) mark (q .d0)
 
 -- t quarters into a smooth pair, into a torn one, and past the last column
 unfoldable pub smoothOf : List ℕ → Pair → ℕ → Pixel
 smoothOf s q t = pixel (mixed s (q .column) (stepOf t (q .next - q .here))) 0 (q .d0)
 
 unfoldable pub tornOf : List ℕ → Pair → ℕ → Pixel
-tornOf s q t = cond (leb t 1) (plainOf s q 0) (pixel (getD s (q .column + 1) 0) 1 (q .d1))
+tornOf s q t = cond (leb t 1) (plainOf s q 0) (pixel (sampleIn s (q .column + 1)) 1 (q .d1))
 
 unfoldable pub lastOf : List ℕ → Pair → ℕ → Pixel
 lastOf s q t = cond (leb t 1) (plainOf s q 0) (plainOf s q 1)

@@ -2,8 +2,8 @@
 use model::Pixel;
 ghost use mathlib.Core.Path.{_≡_};
 ghost use Prim.Native.Nat.{_+_, _-_, _≤_, _<_};
-ghost use lib.ListN.{length, getD};
-ghost use Rattle.model.specs.Row.{stepOf, mixed, pixel};
+ghost use lib.ListN.{length};
+ghost use Rattle.model.specs.Row.{sampleIn, stepOf, mixed, pixel};
 ghost use Rattle.model.specs.Views.{seen, entryOf};
 ghost use Rattle.pixel.specs.Pairs.{Among, reached, smoothOf, tornOf, lastOf, kindPixel, pixelOf, atEdge, frontPast};
 
@@ -48,24 +48,24 @@ fn step_of(t: u32, gap: u32) -> u32
 }
 
 // The sample of column c, whose entry is e.
-fn sample_at(right: bool, texture: &[u8], c: usize, e: usize) -> u8
+fn sample_at(right: bool, texture: &[u16], c: usize, e: usize) -> u16
     requires { ⌜ (c < length (now texture)) × (e ≡ entryOf right (length (now texture)) c) ⌝ }
-    ensures { λ r. ⌜ r ≡ getD (seen right (now (texture .entry))) c 0 ⌝ }
+    ensures { λ r. ⌜ r ≡ sampleIn (seen right (now (texture .entry))) c ⌝ }
 {
-    texture[e]
+    model::sample_in(texture, e)
 }
 
 // The sample of the column after c, whose entry is e.
-fn sample_after(right: bool, texture: &[u8], c: usize, e: usize) -> u8
+fn sample_after(right: bool, texture: &[u16], c: usize, e: usize) -> u16
     requires { ⌜ (c + 1 < length (now texture)) × (e ≡ entryOf right (length (now texture)) c) ⌝ }
-    ensures { λ r. ⌜ r ≡ getD (seen right (now (texture .entry))) (c + 1) 0 ⌝ }
+    ensures { λ r. ⌜ r ≡ sampleIn (seen right (now (texture .entry))) (c + 1) ⌝ }
 {
     let after = planes::right_of(right, texture.len(), c, e);
-    texture[after]
+    model::sample_in(texture, after)
 }
 
 // The sample k quarters of the way from column c, whose entry is e, to the next. The right view reads the same filters backwards.
-fn mix(right: bool, texture: &[u8], c: usize, e: usize, k: u32) -> u8
+fn mix(right: bool, texture: &[u16], c: usize, e: usize, k: u32) -> u16
     requires { ⌜ (k ≤ 4) × (length (now texture) ≤ 4096) ⌝ }
     requires { ⌜ (c + 1 < length (now texture)) × (e ≡ entryOf right (length (now texture)) c) ⌝ }
     ensures { λ r. ⌜ r ≡ mixed (seen right (now (texture .entry))) c k ⌝ }
@@ -78,7 +78,7 @@ fn mix(right: bool, texture: &[u8], c: usize, e: usize, k: u32) -> u8
 }
 
 // What a smooth pair shows at t.
-fn smooth_pixel(right: bool, texture: &[u8], q: Pair, t: u32) -> Pixel
+fn smooth_pixel(right: bool, texture: &[u16], q: Pair, t: u32) -> Pixel
     requires { ⌜ (Among right (length (now texture)) q) × (q .column + 1 < length (now texture)) ⌝ }
     requires { ⌜ (t < q .next - q .here) × (q .next < 65536) ⌝ }
     ensures { λ r. ⌜ r ≡ smoothOf (seen right (now (texture .entry))) q t ⌝ }
@@ -92,7 +92,7 @@ fn smooth_pixel(right: bool, texture: &[u8], q: Pair, t: u32) -> Pixel
 }
 
 // What a torn pair shows at t: the near column at most a quarter past it, then the far one, as a hole.
-fn torn_pixel(right: bool, texture: &[u8], q: Pair, t: u32) -> Pixel
+fn torn_pixel(right: bool, texture: &[u16], q: Pair, t: u32) -> Pixel
     requires { ⌜ (Among right (length (now texture)) q) × (q .column + 1 < length (now texture)) ⌝ }
     ensures { λ r. ⌜ r ≡ tornOf (seen right (now (texture .entry))) q t ⌝ }
 {
@@ -112,7 +112,7 @@ fn torn_pixel(right: bool, texture: &[u8], q: Pair, t: u32) -> Pixel
 }
 
 // What the last column shows at t: a hole from two quarters past it on.
-fn last_pixel(right: bool, texture: &[u8], q: Pair, t: u32) -> Pixel
+fn last_pixel(right: bool, texture: &[u16], q: Pair, t: u32) -> Pixel
     requires { ⌜ Among right (length (now texture)) q ⌝ }
     ensures { λ r. ⌜ r ≡ lastOf (seen right (now (texture .entry))) q t ⌝ }
 {
@@ -124,7 +124,7 @@ fn last_pixel(right: bool, texture: &[u8], q: Pair, t: u32) -> Pixel
 }
 
 // What a pair shows at t, by its kind, which follows from its gap.
-fn kind_pixel(right: bool, texture: &[u8], q: Pair, t: u32) -> Pixel
+fn kind_pixel(right: bool, texture: &[u16], q: Pair, t: u32) -> Pixel
     requires { ⌜ (Among right (length (now texture)) q) × (q .column + 1 < length (now texture)) ⌝ }
     requires { ⌜ (t < q .next - q .here) × (q .next < 65536) ⌝ }
     ensures { λ r. ⌜ r ≡ kindPixel (seen right (now (texture .entry))) q t ⌝ }
@@ -142,7 +142,7 @@ fn kind_pixel(right: bool, texture: &[u8], q: Pair, t: u32) -> Pixel
 }
 
 // What x shows by the pair's column itself, where that owns it.
-pub fn pixel_of(right: bool, texture: &[u8], q: Pair, x: u32) -> Pixel
+pub fn pixel_of(right: bool, texture: &[u16], q: Pair, x: u32) -> Pixel
     requires { ⌜ Among right (length (now texture)) q ⌝ }
     requires { ⌜ (q .here ≤ x) × ((x < q .next) × (q .next < 65536)) ⌝ }
     ensures { λ r. ⌜ r ≡ pixelOf (seen right (now (texture .entry))) q x ⌝ }
@@ -164,9 +164,9 @@ pub fn at_edge(limit: u32, next: u32, x: u32) -> bool
 }
 
 // What a near edge shows: sample and depth of its column, whose entry is e.
-pub fn edge_pixel(right: bool, texture: &[u8], c: usize, e: usize, depth: u8) -> Pixel
+pub fn edge_pixel(right: bool, texture: &[u16], c: usize, e: usize, depth: u8) -> Pixel
     requires { ⌜ (c < length (now texture)) × (e ≡ entryOf right (length (now texture)) c) ⌝ }
-    ensures { λ r. ⌜ r ≡ pixel (getD (seen right (now (texture .entry))) c 0) 0 depth ⌝ }
+    ensures { λ r. ⌜ r ≡ pixel (sampleIn (seen right (now (texture .entry))) c) 0 depth ⌝ }
 {
     let mark = 0;
     Pixel {

@@ -5,3 +5,4 @@ pub mod Fills
 pub mod Paints
 pub mod SeenParts
 pub mod Views
+pub mod Read

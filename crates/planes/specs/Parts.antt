@@ -5,6 +5,7 @@ use mathlib.Core.List.{List, _++_}
 use lib.ListN.{length, getD, take, drop}
 use Rattle.model.specs.declared.Pixel.{Pixel}
 use Rattle.model.specs.declared.Block.{Block}
+use Rattle.model.specs.Row.{greatest}
 
 -- the entries xs in the place of as many of the list's own, from entry `at` on
 unfoldable pub splice : {A : Type 0} → List A → ℕ → List A → List A
@@ -21,6 +22,10 @@ pub record Painted (g : ℕ → Pixel) (start stop : ℕ) (s f m s′ f′ m′ 
   pub samples : Filled 0 (λ p. g p .sample) start stop s s′
   pub fronts : Filled 0 (λ p. g p .front) start stop f f′
   pub marks : Filled 0 (λ p. g p .mark) start stop m m′
+
+-- no entry is above the greatest sample
+abbrev pub Low : List ℕ → Type 0
+Low l = (i : ℕ) → getD l i 0 ≤ greatest
 
 -- a block by its four numbers
 abbrev pub blockOf : ℕ → ℕ → ℕ → ℕ → Block

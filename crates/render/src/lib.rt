@@ -75,9 +75,9 @@ fn strip_refusal(
 fn draw_packed(
     right: bool,
     table: &[u16; 256],
-    texture: &[u8],
+    texture: &[u16],
     depths: &[u8],
-    samples: &mut [u8],
+    samples: &mut [u16],
     marks: &mut [u8],
     fronts: &mut [u8],
     flags: &mut [u8],
@@ -105,9 +105,9 @@ fn draw_packed(
 fn draw_strip(
     right: bool,
     table: &[u16; 256],
-    texture: &[u8],
+    texture: &[u16],
     depths: &[u8],
-    samples: &mut [u8],
+    samples: &mut [u16],
     marks: &mut [u8],
     fronts: &mut [u8],
 )
@@ -133,9 +133,9 @@ fn draw_strip(
 pub fn render(
     settings: Settings,
     view: u32,
-    texture: &[u8],
+    texture: &[u16],
     depths: &[u8],
-    samples: &mut [u8],
+    samples: &mut [u16],
     marks: &mut [u8],
     fronts: &mut [u8],
 ) -> Refusal

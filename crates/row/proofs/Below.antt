@@ -14,11 +14,12 @@ use native.Mathlib.Numerals.{add-one}
 use lib.Dec.{leb, ltb}
 use lib.ListN.{length}
 use borrow.Author.Tests.{leb-true, lt-ltb, le-ltb}
-use Rattle.model.specs.Row.{Line, width, placeIn, quarter, least, limit, owner, plain, ownedPixel, placedAt, nearEdge, shownPixel, pixelAt}
+use Rattle.model.specs.Row.{Line, width, placeIn, quarter, least, limit, owner, greatest, plain, ownedPixel, placedAt, nearEdge, shownPixel, pixelAt}
 use Rattle.model.proofs.Choice.{bool-cases, lt-or-le, and-off}
 use Rattle.model.proofs.Owners.{Owns, least-most, least-join, limit-end, limit-step, limit-most, limit-above, owner-owns, owner-below, owns-stretch, place-zero}
 use Rattle.model.proofs.Edges.{placed-is}
 use Rattle.model.proofs.Fresh.{flag-owned}
+use Rattle.model.proofs.Totals.{sampleIn-most, owned-most}
 use Rattle.pixel.specs.declared.Edge.{Edge}
 use Rattle.pixel.specs.Pairs.{nextPlace, atEdge, edgedPixel}
 use Rattle.pixel.proofs.Pairs.{next-inner, next-last, next-most}
@@ -153,3 +154,11 @@ flag-below l n g p =
 -- the positions before the place after a column are the row's
 pub first-within : (t d : List ℕ) (c high : ℕ) → high ≤ nextPlace t d c → firstAt high ≤ length d
 first-within t d c high h = let k : high ≤ quarter (length d) = omega (arith, next-most t d c) in omega arith
+
+-- no sample that is drawn so is above the greatest
+pub below-sample : (l : Line) (n : ℕ) (g : Edge) (p : ℕ) → pixelBelow l n g p .sample ≤ greatest
+unfolding pixelBelow edgedPixel
+below-sample l n g p =
+    let c : ℕ = owner (placeIn l) (quarter p) n in
+    bool-cases (atEdge (limitBelow (placeIn l) (g .limit) n (c + 1)) (nextPlace (l .table) (l .depths) c) (quarter p))
+    (λ e. rw e (sampleIn-most (l .texture) _)) (λ e. rw e (owned-most l (quarter p) c))

@@ -8,7 +8,7 @@ use lib.Dec.{ltb}
 use lib.ListN.{length, getD}
 use lib.IntN.{ℤ, pos}
 use Rattle.model.specs.declared.Pixel.{Pixel}
-use Rattle.model.specs.Row.{Line, line, width, place, placeIn, quarter, least, owner, pixel, Row}
+use Rattle.model.specs.Row.{Line, line, width, place, placeIn, quarter, least, owner, sampleIn, pixel, Row}
 use Rattle.model.specs.Views.{seen}
 use Rattle.model.specs.Refusals.{tableOk}
 use Rattle.planes.specs.Parts.{splice, Painted}
@@ -36,7 +36,7 @@ frontBelow f g n c = front f (g .limit) (g .column) c (n - c)
 
 -- what x shows where the pair's column owns it: s is the texture and d the depths, as the view reads them
 unfoldable pub shownOf : List ℕ → List ℕ → Pair → ℕ → Pixel
-shownOf s d q x = cond (atEdge (q .limit) (q .next) x) (pixel (getD s (q .front) 0) 0 (getD d (q .front) 0)) (pixelOf s q x)
+shownOf s d q x = cond (atEdge (q .limit) (q .next) x) (pixel (sampleIn s (q .front)) 0 (getD d (q .front) 0)) (pixelOf s q x)
 
 -- position p drawn from the columns below n alone, where g is taken for the edge right of them
 unfoldable pub pixelBelow : Line → ℕ → Edge → ℕ → Pixel

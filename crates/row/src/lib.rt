@@ -31,7 +31,7 @@ pub fn at(right: bool, row: &[u8], c: usize) -> u8
 // Stores what position i of a part shows, as the view reads it.
 fn put_pixel(
     right: bool,
-    samples: &mut [u8],
+    samples: &mut [u16],
     fronts: &mut [u8],
     flags: &mut [u8],
     i: usize,
@@ -198,7 +198,7 @@ fn step(
 // need it: with the filter behind the test, the compiler takes it for half as likely and leaves it out of the trial's loop.
 fn shown_at(
     right: bool,
-    texture: &[u8],
+    texture: &[u16],
     depths: &[u8],
     candidate: &[u8],
     column: usize,
@@ -225,13 +225,13 @@ fn shown_at(
 fn draw_positions(
     right: bool,
     table: &[u16; 256],
-    texture: &[u8],
+    texture: &[u16],
     depths: &[u8],
     candidate: &[u8],
     column: usize,
     from: Pair,
     start: usize,
-    samples: &mut [u8],
+    samples: &mut [u16],
     fronts: &mut [u8],
     flags: &mut [u8],
 ) -> Pair
@@ -259,13 +259,13 @@ fn draw_positions(
 // The same for each view: the compiler makes a loop for each where the view is known.
 fn draw_left(
     table: &[u16; 256],
-    texture: &[u8],
+    texture: &[u16],
     depths: &[u8],
     candidate: &[u8],
     column: usize,
     from: Pair,
     start: usize,
-    samples: &mut [u8],
+    samples: &mut [u16],
     fronts: &mut [u8],
     flags: &mut [u8],
 ) -> Pair
@@ -292,13 +292,13 @@ fn draw_left(
 
 fn draw_right(
     table: &[u16; 256],
-    texture: &[u8],
+    texture: &[u16],
     depths: &[u8],
     candidate: &[u8],
     column: usize,
     from: Pair,
     start: usize,
-    samples: &mut [u8],
+    samples: &mut [u16],
     fronts: &mut [u8],
     flags: &mut [u8],
 ) -> Pair
@@ -328,13 +328,13 @@ fn draw_right(
 pub fn draw_span(
     right: bool,
     table: &[u16; 256],
-    texture: &[u8],
+    texture: &[u16],
     depths: &[u8],
     candidate: &[u8],
     column: usize,
     from: Pair,
     start: usize,
-    samples: &mut [u8],
+    samples: &mut [u16],
     fronts: &mut [u8],
     flags: &mut [u8],
 ) -> Pair
@@ -522,12 +522,12 @@ pub fn row_low(right: bool, table: &[u16; 256], depths: &[u8], a: usize, n: usiz
 pub fn draw_part(
     right: bool,
     table: &[u16; 256],
-    texture: &[u8],
+    texture: &[u16],
     depths: &[u8],
     columns: usize,
     edge: Edge,
     start: usize,
-    samples: &mut [u8],
+    samples: &mut [u16],
     fronts: &mut [u8],
     flags: &mut [u8],
 )
@@ -558,9 +558,9 @@ pub fn draw_part(
 pub fn draw_view_row(
     right: bool,
     table: &[u16; 256],
-    texture: &[u8],
+    texture: &[u16],
     depths: &[u8],
-    samples: &mut [u8],
+    samples: &mut [u16],
     fronts: &mut [u8],
     flags: &mut [u8],
 )
@@ -591,9 +591,9 @@ pub fn draw_view_row(
 pub fn draw_row(
     right: bool,
     table: &[u16; 256],
-    texture: &[u8],
+    texture: &[u16],
     depths: &[u8],
-    samples: &mut [u8],
+    samples: &mut [u16],
     fronts: &mut [u8],
     flags: &mut [u8],
     limits: &mut [i16],

@@ -13,6 +13,7 @@ use lib.ListN.{length, getD, take, set, length-set}
 use lib.Seq.{take-all, take-suc, take-suc-set}
 use Rattle.rowtext.specs.Format.{digit, space, newline, decimal, spaced, lineOf}
 use Rattle.rowtext.proofs.Decimal.{decimal-digit, decimal-ends}
+use Rattle.rowtext.proofs.Lengths.{length-1, one-more}
 use Rattle.model.specs.Lists.{rows}
 use Rattle.model.specs.Marks.{markAt}
 use Rattle.rowprint.specs.Printed.{rowWord, headerOf}
@@ -35,11 +36,11 @@ put-as {o = o} {at = at} e h a =
     record { written = a .written ∙ ap (λ (x : List ℕ). take at o ++ x) e; room = omega arith; size = a .size }
 
 -- a number by its digits
-pub put-digit : (k n : ℕ) {o : List ℕ} {at b : ℕ} {p : List ℕ} {l : ℕ} → 1 ≤ k → n < 10 → b ≡ digit n → Put 1 o at (b ∷ []) p l → Put k o at (decimal n) p l
-put-digit k n h d e a = put-as (rw e (sym (decimal-digit n d))) h a
+pub put-digit : (n : ℕ) {o : List ℕ} {at b : ℕ} {p : List ℕ} {l : ℕ} → n < 10 → b ≡ digit n → Put 1 o at (b ∷ []) p l → Put (length (decimal n)) o at (decimal n) p l
+put-digit n h e a = put-as (rw e (sym (decimal-digit n h))) (omega (arith, length-1 n h)) a
 
-pub put-last : (m n : ℕ) {o : List ℕ} {at b : ℕ} {p : List ℕ} {l : ℕ} {q : List ℕ} {i : ℕ} → 10 ≤ n → b ≡ digit (n % 10) → Put m o at (decimal (n / 10)) p l → Put 1 p l (b ∷ []) q i → Put (m + 1) o at (decimal n) q i
-put-last m n h e a b = put-as (rw e (sym (decimal-ends n h))) (omega arith) (put-then a b)
+pub put-last : (n : ℕ) {o : List ℕ} {at b : ℕ} {p : List ℕ} {l : ℕ} {q : List ℕ} {i : ℕ} → 10 ≤ n → b ≡ digit (n % 10) → Put (length (decimal (n / 10))) o at (decimal (n / 10)) p l → Put 1 p l (b ∷ []) q i → Put (length (decimal n)) o at (decimal n) q i
+put-last n h e a b = put-as (rw e (sym (decimal-ends n h))) (omega (arith, one-more n h)) (put-then a b)
 
 -- four numbers and what ends each
 line-of-four : (a b c d : ℕ) → (decimal a ++ (space ∷ [])) ++ ((decimal b ++ (space ∷ [])) ++ ((decimal c ++ (space ∷ [])) ++ (decimal d ++ (newline ∷ [])))) ≡ lineOf (a ∷ b ∷ c ∷ d ∷ [])
@@ -59,11 +60,11 @@ pub put-all : (m : ℕ) (o xs p : List ℕ) (i : ℕ) → length xs ≤ i → Pu
 put-all m o xs p i h a = put-as (take-all i xs h) (omega arith) a
 
 -- a line of four numbers, field by field
-pub put-position : (p s m f : ℕ) {o : List ℕ} {at : ℕ} {o₁ : List ℕ} {n₁ : ℕ} {o₂ : List ℕ} {n₂ : ℕ} {o₃ : List ℕ} {n₃ : ℕ} {o₄ : List ℕ} {n₄ : ℕ} → Put 4 o at (decimal p ++ (space ∷ [])) o₁ n₁ → Put 4 o₁ n₁ (decimal s ++ (space ∷ [])) o₂ n₂ → Put 4 o₂ n₂ (decimal m ++ (space ∷ [])) o₃ n₃ → Put 4 o₃ n₃ (decimal f ++ (newline ∷ [])) o₄ n₄ → Put 16 o at (lineOf (p ∷ s ∷ m ∷ f ∷ [])) o₄ n₄
+pub put-position : (p s m f : ℕ) {o : List ℕ} {at : ℕ} {o₁ : List ℕ} {n₁ : ℕ} {o₂ : List ℕ} {n₂ : ℕ} {o₃ : List ℕ} {n₃ : ℕ} {o₄ : List ℕ} {n₄ : ℕ} → Put 6 o at (decimal p ++ (space ∷ [])) o₁ n₁ → Put 6 o₁ n₁ (decimal s ++ (space ∷ [])) o₂ n₂ → Put 6 o₂ n₂ (decimal m ++ (space ∷ [])) o₃ n₃ → Put 6 o₃ n₃ (decimal f ++ (newline ∷ [])) o₄ n₄ → Put 24 o at (lineOf (p ∷ s ∷ m ∷ f ∷ [])) o₄ n₄
 put-position p s m f a b c d = put-as (line-of-four p s m f) (omega arith) (put-then a (put-then b (put-then c d)))
 
 -- the header
-pub put-header : (w : ℕ) {o o₁ : List ℕ} {n₁ : ℕ} {o₂ : List ℕ} {n₂ : ℕ} → Put 16 o 0 rowWord o₁ n₁ → Put 4 o₁ n₁ (decimal w ++ (newline ∷ [])) o₂ n₂ → Put 20 o 0 (headerOf w) o₂ n₂
+pub put-header : (w : ℕ) {o o₁ : List ℕ} {n₁ : ℕ} {o₂ : List ℕ} {n₂ : ℕ} → Put 16 o 0 rowWord o₁ n₁ → Put 6 o₁ n₁ (decimal w ++ (newline ∷ [])) o₂ n₂ → Put 22 o 0 (headerOf w) o₂ n₂
 unfolding headerOf lineOf spaced
 put-header w a b = put-then a b
 
@@ -74,20 +75,20 @@ put-anew e a = record { written = a .written; room = a .room; size = a .size ∙
 -- the header h, and the lines of the positions below p
 module _ (f : ℕ → List ℕ) (h : List ℕ) where
   abbrev pub Lines : List ℕ → List ℕ → ℕ → ℕ → Type 0
-  Lines before after at p = Put (20 + 16 * p) before 0 (h ++ rows f p) after at
+  Lines before after at p = Put (22 + 24 * p) before 0 (h ++ rows f p) after at
 
-  pub lines-none : {o o₁ : List ℕ} {at : ℕ} → Put 20 o 0 h o₁ at → Lines o₁ o₁ at 0
+  pub lines-none : {o o₁ : List ℕ} {at : ℕ} → Put 22 o 0 h o₁ at → Lines o₁ o₁ at 0
   unfolding rows
   lines-none a = put-as (sym (append-nil h)) (omega arith) (put-anew (sym (a .size)) a)
 
-  pub lines-next : (p : ℕ) {o o₁ : List ℕ} {at : ℕ} {o₂ : List ℕ} {n : ℕ} → Lines o o₁ at p → Put 16 o₁ at (f p) o₂ n → Lines o o₂ n (p + 1)
+  pub lines-next : (p : ℕ) {o o₁ : List ℕ} {at : ℕ} {o₂ : List ℕ} {n : ℕ} → Lines o o₁ at p → Put 24 o₁ at (f p) o₂ n → Lines o o₂ n (p + 1)
   unfolding rows
   lines-next p a b = put-as (append-assoc h (rows f p) (f p) ∙ rw (add-one p)) (omega arith) (put-then a b)
 
-  pub lines-all : (p w : ℕ) {o o₁ : List ℕ} {at : ℕ} {o₂ : List ℕ} {n : ℕ} → p ≤ w → w ≤ p → w ≤ 64 → Put 20 o 0 h o₁ at → Lines o₁ o₂ n p → Put 2048 o 0 (h ++ rows f w) o₂ n
+  pub lines-all : (p w : ℕ) {o o₁ : List ℕ} {at : ℕ} {o₂ : List ℕ} {n : ℕ} → p ≤ w → w ≤ p → w ≤ 64 → Put 22 o 0 h o₁ at → Lines o₁ o₂ n p → Put 2048 o 0 (h ++ rows f w) o₂ n
   lines-all p w a b c first lines =
       let e : p ≡ w = omega arith in put-as (ap (λ (k : ℕ). h ++ rows f k) e) (omega arith) (put-anew (first .size) lines)
 
-pub put-shown : (samples marks fronts : List ℕ) (p m : ℕ) {o : List ℕ} {at : ℕ} {q : List ℕ} {n : ℕ} → m ≡ markAt marks p → Put 16 o at (lineOf (p ∷ getD samples p 0 ∷ m ∷ getD fronts p 0 ∷ [])) q n → Put 16 o at (shownLine samples marks fronts p) q n
+pub put-shown : (samples marks fronts : List ℕ) (p m : ℕ) {o : List ℕ} {at : ℕ} {q : List ℕ} {n : ℕ} → m ≡ markAt marks p → Put 24 o at (lineOf (p ∷ getD samples p 0 ∷ m ∷ getD fronts p 0 ∷ [])) q n → Put 24 o at (shownLine samples marks fronts p) q n
 unfolding shownLine
 put-shown samples marks fronts p m e a = rw e at a

@@ -17,7 +17,7 @@ ghost use Rattle.rowprint.specs.Steps.{Put, Plain, Shows, shownLine};
 
 // What the left view shows of a row: samples, packed marks and front depths.
 struct Drawn {
-    samples: [u8; 64],
+    samples: [u16; 64],
     marks: [u8; 64],
     fronts: [u8; 64],
 }
@@ -52,7 +52,13 @@ fn settings(w: usize) -> Settings
     }
 }
 
-// Room for the entries of a row.
+// Room for the samples of a row, and for its marks or front depths.
+fn blank_samples() -> [u16; 64]
+    ensures { λ r. ⌜ 64 ≡ length r ⌝ }
+{
+    [0; 64]
+}
+
 fn blank() -> [u8; 64]
     ensures { λ r. ⌜ 64 ≡ length r ⌝ }
 {
@@ -60,11 +66,11 @@ fn blank() -> [u8; 64]
 }
 
 // The left view of a row.
-fn draw(w: usize, texture: &[u8], depths: &[u8]) -> Drawn
+fn draw(w: usize, texture: &[u16], depths: &[u8]) -> Drawn
     requires { ⌜ (1 ≤ w) × (w ≤ 64) × (length (now texture) ≡ w) × (length (now depths) ≡ w) ⌝ }
     ensures { λ r. ⌜ Shows (viewRow false (line plainTable (now (texture .entry)) (now (depths .entry)))) w (r .samples) (r .marks) (r .fronts) ⌝ }
 {
-    let mut samples = blank();
+    let mut samples = blank_samples();
     let mut marks = blank();
     let mut fronts = blank();
     let bytes = (w + 7) / 8;
@@ -101,40 +107,34 @@ fn digit(d: usize) -> u8
     (48 + d) as u8
 }
 
-// Writes a number of at most two digits.
-fn put_tens(out: &mut [u8], at: usize, n: usize) -> usize
-    requires { ⌜ (n < 100) × (at + 2 ≤ length (now out)) ⌝ }
-    ensures { λ r. ⌜ Put 2 (now (out .entry)) at (decimal n) (now (out .exit)) r ⌝ }
-{
-    if n < 10 {
-        return put(out, at, digit(n));
-    }
-    let next = put(out, at, digit(n / 10));
-    put(out, next, digit(n % 10))
-}
-
-// Writes a number of at most three digits.
+// Writes a number: the digits before its last one, and that.
 fn put_number(out: &mut [u8], at: usize, n: usize) -> usize
-    requires { ⌜ (n < 1000) × (at + 3 ≤ length (now out)) ⌝ }
-    ensures { λ r. ⌜ Put 3 (now (out .entry)) at (decimal n) (now (out .exit)) r ⌝ }
+    requires { ⌜ at + length (decimal n) ≤ length (now out) ⌝ }
+    ensures { λ r. ⌜ Put (length (decimal n)) (now (out .entry)) at (decimal n) (now (out .exit)) r ⌝ }
 {
     if n < 10 {
         return put(out, at, digit(n));
     }
-    let next = put_tens(out, at, n / 10);
+    let next = put_number(out, at, n / 10);
     put(out, next, digit(n % 10))
 }
 
 // Writes a number and the byte that ends it.
 fn put_field(out: &mut [u8], at: usize, n: usize, mark: u8) -> usize
-    requires { ⌜ (n < 1000) × (at + 4 ≤ length (now out)) ⌝ }
-    ensures { λ r. ⌜ Put 4 (now (out .entry)) at (decimal n ++ (mark ∷ [])) (now (out .exit)) r ⌝ }
+    requires { ⌜ (n < 65536) × (at + 6 ≤ length (now out)) ⌝ }
+    ensures { λ r. ⌜ Put 6 (now (out .entry)) at (decimal n ++ (mark ∷ [])) (now (out .exit)) r ⌝ }
 {
     let next = put_number(out, at, n);
     put(out, next, mark)
 }
 
-// A byte as a number to be printed.
+// A sample as a number to be printed, and a byte.
+fn wide_sample(s: u16) -> usize
+    ensures { λ r. ⌜ (r ≡ s) × (r < 65536) ⌝ }
+{
+    s as usize
+}
+
 fn wide(b: u8) -> usize
     ensures { λ r. ⌜ (r ≡ b) × (r < 256) ⌝ }
 {
@@ -142,12 +142,12 @@ fn wide(b: u8) -> usize
 }
 
 // Writes the line of position p.
-fn put_position(out: &mut [u8], at: usize, p: usize, sample: u8, mark: u8, front: u8) -> usize
-    requires { ⌜ (p < 1000) × (at + 16 ≤ length (now out)) ⌝ }
-    ensures { λ r. ⌜ Put 16 (now (out .entry)) at (lineOf (p ∷ sample ∷ mark ∷ front ∷ [])) (now (out .exit)) r ⌝ }
+fn put_position(out: &mut [u8], at: usize, p: usize, sample: u16, mark: u8, front: u8) -> usize
+    requires { ⌜ (p < 64) × (at + 24 ≤ length (now out)) ⌝ }
+    ensures { λ r. ⌜ Put 24 (now (out .entry)) at (lineOf (p ∷ sample ∷ mark ∷ front ∷ [])) (now (out .exit)) r ⌝ }
 {
     let first = put_field(out, at, p, 32);
-    let second = put_field(out, first, wide(sample), 32);
+    let second = put_field(out, first, wide_sample(sample), 32);
     let third = put_field(out, second, wide(mark), 32);
     put_field(out, third, wide(front), 10)
 }
@@ -167,15 +167,15 @@ fn put_text(out: &mut [u8], text: &[u8]) -> usize
 
 // Writes the header: the word row and w.
 fn put_header(out: &mut [u8], w: usize) -> usize
-    requires { ⌜ (w ≤ 64) × (20 ≤ length (now out)) ⌝ }
-    ensures { λ r. ⌜ Put 20 (now (out .entry)) 0 (headerOf w) (now (out .exit)) r ⌝ }
+    requires { ⌜ (w ≤ 64) × (22 ≤ length (now out)) ⌝ }
+    ensures { λ r. ⌜ Put 22 (now (out .entry)) 0 (headerOf w) (now (out .exit)) r ⌝ }
 {
     let next = put_text(out, b"row ");
     put_field(out, next, w, 10)
 }
 
 // Writes the header and a line for each position.
-fn put_row(out: &mut [u8], w: usize, samples: &[u8], marks: &[u8], fronts: &[u8]) -> usize
+fn put_row(out: &mut [u8], w: usize, samples: &[u16], marks: &[u8], fronts: &[u8]) -> usize
     requires { ⌜ (w ≤ 64) × (2048 ≤ length (now out)) ⌝ }
     requires { ⌜ (length (now samples) ≡ 64) × (length (now marks) ≡ 64) × (length (now fronts) ≡ 64) ⌝ }
     ensures { λ r. ⌜ Put 2048 (now (out .entry)) 0 (headerOf w ++ rows (shownLine (now (samples .entry)) (now (marks .entry)) (now (fronts .entry))) w) (now (out .exit)) r ⌝ }
@@ -190,7 +190,7 @@ fn put_row(out: &mut [u8], w: usize, samples: &[u8], marks: &[u8], fronts: &[u8]
 }
 
 // Writes what is printed of a row.
-fn put_drawing(out: &mut [u8], w: usize, texture: &[u8], depths: &[u8]) -> usize
+fn put_drawing(out: &mut [u8], w: usize, texture: &[u16], depths: &[u8]) -> usize
     requires { ⌜ (1 ≤ w) × (w ≤ 64) × (length (now texture) ≡ w) × (length (now depths) ≡ w) ⌝ }
     requires { ⌜ 2048 ≤ length (now out) ⌝ }
     ensures { λ r. ⌜ Put 2048 (now (out .entry)) 0 (printed (rowText w (now (texture .entry)) (now (depths .entry)))) (now (out .exit)) r ⌝ }
@@ -217,7 +217,7 @@ pub fn answer(text: &[u8], out: &mut [u8; 4096]) -> usize
     put_drawing(out, w, &texture[..w], &depths[..w])
 }
 
-// Reads a descriptor to its end and prints the answer. A text that is a row has at most 515 bytes, so one that fills the buffer is none.
+// Reads a descriptor to its end and prints the answer. A text that is a row has at most 579 bytes, so one that fills the buffer is none.
 pub fn run(fd: i32) {
     let mut text = io::buffer();
     let n = io::read_full(fd, &mut text);

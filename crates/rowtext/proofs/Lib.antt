@@ -5,4 +5,4 @@ pub mod Positions
 pub mod Lines
 pub mod Rows
 pub mod Lengths
-pub mod Spare
+pub mod Entries

@@ -1,6 +1,7 @@
 -- Reading a line.
 --     line-printed                                    a printed line is read
 --     line-read                                       what was read is a printed line
+--     line-most                                       and its numbers are in range
 --     turn-first, turn-on, turn-off, turn-end         the turns of a loop that reads a line number by number
 use Prim.Native.Nat.{ℕ, zero, suc, _+_, _-_, _<_, _≤_}
 use mathlib.Core.Path.{_≡_, refl, sym, ap, _∙_}
@@ -64,6 +65,11 @@ line-read most (suc n) l ns m h e =
     let r = field-read most space l v rest h field in
     rw cons at (longer most n v l rest vs m (r .0) (r .1) (line-read most n rest vs m h line))
 
+pub line-most : (most n : ℕ) (l ns m : List ℕ) → 9 ≤ most → readLine most n l ≡ got ns m → AtMost most ns
+unfolding readLine
+line-most most zero l ns m h e = let a : [] ≡ ns = got-value e in rw (← a) tt
+line-most most (suc n) l ns m h e = line-read most n l ns m h e .range
+
 -- the numbers vs before those of a line's rest
 abbrev pub ahead : List ℕ → Step (List ℕ) → Step (List ℕ)
 ahead [] s = s
@@ -81,28 +87,28 @@ pub ahead-none : (vs : List ℕ) → ahead vs nothing ≡ nothing
 ahead-none [] = refl
 ahead-none (v ∷ vs) = rw (ahead-none vs)
 
-pub turn-first : (w : ℕ) (values l : List ℕ) → readLine 255 w l ≡ ahead (take 0 values) (readLine 255 (w - 0) l)
-turn-first w values l = rw (sub-zero w)
+pub turn-first : (most w : ℕ) (values l : List ℕ) → readLine most w l ≡ ahead (take 0 values) (readLine most (w - 0) l)
+turn-first most w values l = rw (sub-zero w)
 
 -- A turn of the loop that reads a line: s is what the whole line is read as, k of its w numbers are read, l is left.
-module _ (w k mark : ℕ) (h : k < w) (ends : mark ≡ markOf (w - k - 1)) (values : List ℕ) (s : Step (List ℕ)) (l : List ℕ) (inv : s ≡ ahead (take k values) (readLine 255 (w - k) l)) where
-  pub turn-on : (u v : ℕ) (m : List ℕ) → u ≡ v → k < length values → got v m ≡ readField 255 mark l → s ≡ ahead (take (k + 1) (set values k u)) (readLine 255 (w - (k + 1)) m)
+module _ (most w k mark : ℕ) (h : k < w) (ends : mark ≡ markOf (w - k - 1)) (values : List ℕ) (s : Step (List ℕ)) (l : List ℕ) (inv : s ≡ ahead (take k values) (readLine most (w - k) l)) where
+  pub turn-on : (v : ℕ) (m : List ℕ) → k < length values → got v m ≡ readField most mark l → s ≡ ahead (take (k + 1) (set values k v)) (readLine most (w - (k + 1)) m)
   unfolding readLine
-  turn-on u v m same j e =
+  turn-on v m j e =
       let a : w - k ≡ suc (w - k - 1) = omega arith in
       let b : w - (k + 1) ≡ w - k - 1 = omega arith in
       inv
-      ∙ rw (same, a, b, add-one k, take-suc-set values k v j, ahead-more (take k values) v (readLine 255 (w - k - 1) m), ← ends, ← e)
+      ∙ rw (a, b, add-one k, take-suc-set values k v j, ahead-more (take k values) v (readLine most (w - k - 1) m), ← ends, ← e)
 
-  pub turn-off : nothing ≡ readField 255 mark l → nothing ≡ s
+  pub turn-off : nothing ≡ readField most mark l → nothing ≡ s
   unfolding readLine
   turn-off e =
       let a : w - k ≡ suc (w - k - 1) = omega arith in
       sym (inv ∙ rw (a, ← ends, ← e) (ahead-none (take k values)))
 
-pub turn-end : (w k : ℕ) → w ≤ k → k ≤ w → (values : List ℕ) (s : Step (List ℕ)) (l : List ℕ) → s ≡ ahead (take k values) (readLine 255 (w - k) l) → got (take w values) l ≡ s
+pub turn-end : (most w k : ℕ) → w ≤ k → k ≤ w → (values : List ℕ) (s : Step (List ℕ)) (l : List ℕ) → s ≡ ahead (take k values) (readLine most (w - k) l) → got (take w values) l ≡ s
 unfolding readLine
-turn-end w k h g values s l inv =
+turn-end most w k h g values s l inv =
     let a : k ≡ w = omega arith in
     let b : w - k ≡ 0 = omega arith in
     sym (inv ∙ rw (b, ahead-all (take k values) l, a))

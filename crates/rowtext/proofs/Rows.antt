@@ -11,7 +11,8 @@ use lib.Dec.{eqb}
 use lib.ListN.{length, take, drop, drop-of-length-le}
 use borrow.Author.Tests.{eq-eqb, ne-eqb, eqb-false}
 use Rattle.model.proofs.Choice.{bool-cases}
-use Rattle.rowtext.specs.Format.{RowText, rowText, AtMost, Valid, newline, decimal, lineOf, textOf}
+use Rattle.model.specs.Row.{greatest}
+use Rattle.rowtext.specs.Format.{RowText, rowText, AtMost, nearest, Valid, newline, decimal, lineOf, textOf}
 use Rattle.rowtext.specs.Reader.{Step, got, nothing, then, readField, readLine, readEnd, readLines, readRow, RowPost}
 use Rattle.rowtext.specs.Promise.{ReadPost}
 use Rattle.rowtext.specs.declared.Parsed.{Parsed}
@@ -21,13 +22,13 @@ use Rattle.rowtext.proofs.Positions.{from-here}
 use Rattle.rowtext.proofs.Lines.{one-line, line-printed, line-read, IsLine}
 
 -- a line of w numbers, w at least 1
-full-line-printed : (w : ℕ) (ns l : List ℕ) → 1 ≤ w → length ns ≡ w → AtMost 255 ns → readLine 255 w (lineOf ns ++ l) ≡ got ns l
-full-line-printed w [] l h e r = absurd (omega arith)
-full-line-printed w (n ∷ ns) l h e r = rw (← e) (line-printed 255 n ns l r)
+full-line-printed : (most w : ℕ) (ns l : List ℕ) → 1 ≤ w → length ns ≡ w → AtMost most ns → readLine most w (lineOf ns ++ l) ≡ got ns l
+full-line-printed most w [] l h e r = absurd (omega arith)
+full-line-printed most w (n ∷ ns) l h e r = rw (← e) (line-printed most n ns l r)
 
-full-line-read : (w : ℕ) (l ns m : List ℕ) → 1 ≤ w → readLine 255 w l ≡ got ns m → IsLine 255 w l ns m
-full-line-read zero l ns m h e = absurd (omega arith)
-full-line-read (suc n) l ns m h e = line-read 255 n l ns m (omega arith) e
+full-line-read : (most w : ℕ) (l ns m : List ℕ) → 9 ≤ most → 1 ≤ w → readLine most w l ≡ got ns m → IsLine most w l ns m
+full-line-read most zero l ns m k h e = absurd (omega arith)
+full-line-read most (suc n) l ns m k h e = line-read most n l ns m k e
 
 end-read : (r s : RowText) (l m : List ℕ) → readEnd r l ≡ got s m → (r ≡ s) × (l ≡ [])
 unfolding readEnd
@@ -37,9 +38,9 @@ end-read r s (b ∷ bs) m e = got≢nothing e
 pub row-printed : (r : RowText) → Valid r → readRow (textOf r) ≡ got r []
 unfolding readRow readLines readEnd textOf
 row-printed r v =
-    let samples = full-line-printed (r .w) (r .samples) (lineOf (r .depths)) (v .w-least) (v .samples) (v .sample-range) in
-    let depths : readLine 255 (r .w) (lineOf (r .depths)) ≡ got (r .depths) [] =
-    rw (append-nil (lineOf (r .depths))) at (full-line-printed (r .w) (r .depths) [] (v .w-least) (v .depths) (v .depth-range)) in
+    let samples = full-line-printed greatest (r .w) (r .samples) (lineOf (r .depths)) (v .w-least) (v .samples) (v .sample-range) in
+    let depths : readLine nearest (r .w) (lineOf (r .depths)) ≡ got (r .depths) [] =
+    rw (append-nil (lineOf (r .depths))) at (full-line-printed nearest (r .w) (r .depths) [] (v .w-least) (v .depths) (v .depth-range)) in
     rw (
       one-line (r .w) (lineOf (r .samples) ++ lineOf (r .depths)),
       field-printed 64 newline (r .w) (lineOf (r .samples) ++ lineOf (r .depths)) (v .w-most) (omega arith),
@@ -57,10 +58,10 @@ pub record AreLines (w : ℕ) (l : List ℕ) (r : RowText) : Type 0 where
 lines-read : (w : ℕ) (l : List ℕ) (r : RowText) (m : List ℕ) → 1 ≤ w → w ≤ 64 → readLines w l ≡ got r m → AreLines w l r
 unfolding readLines
 lines-read w l r m h k e =
-    let (samples, rest, first, more) = then-got (readLine 255 w l) (λ samples rest. then (readLine 255 w rest) (λ depths rest. readEnd (rowText w samples depths) rest)) r m e in
-    let (depths, left, second, end) = then-got (readLine 255 w rest) (λ depths rest. readEnd (rowText w samples depths) rest) r m more in
-    let a = full-line-read w l samples rest h first in
-    let b = full-line-read w rest depths left h second in
+    let (samples, rest, first, more) = then-got (readLine greatest w l) (λ samples rest. then (readLine nearest w rest) (λ depths rest. readEnd (rowText w samples depths) rest)) r m e in
+    let (depths, left, second, end) = then-got (readLine nearest w rest) (λ depths rest. readEnd (rowText w samples depths) rest) r m more in
+    let a = full-line-read greatest w l samples rest (omega arith) h first in
+    let b = full-line-read nearest w rest depths left (omega arith) h second in
     let c = end-read (rowText w samples depths) r left m end in
     let last : rest ≡ lineOf depths = b .text ∙ ap (λ (x : List ℕ). lineOf depths ++ x) (c .1) ∙ append-nil (lineOf depths) in
     let valid : Valid (rowText w samples depths) =
@@ -92,16 +93,16 @@ text-unique r s v u e = got-value (sym (row-printed r v) ∙ ap readRow e ∙ ro
 
 -- The steps of the code: what is read of the whole text, after each.
 module _ (w : ℕ) (l : List ℕ) where
-  pub no-samples : nothing ≡ readLine 255 w l → nothing ≡ readLines w l
+  pub no-samples : nothing ≡ readLine greatest w l → nothing ≡ readLines w l
   unfolding readLines
   no-samples e = rw (← e)
 
-  module _ (samples m : List ℕ) (first : got samples m ≡ readLine 255 w l) where
-    pub no-depths : nothing ≡ readLine 255 w m → nothing ≡ readLines w l
+  module _ (samples m : List ℕ) (first : got samples m ≡ readLine greatest w l) where
+    pub no-depths : nothing ≡ readLine nearest w m → nothing ≡ readLines w l
     unfolding readLines
     no-depths e = rw (← first, ← e)
 
-    module _ (depths n : List ℕ) (second : got depths n ≡ readLine 255 w m) where
+    module _ (depths n : List ℕ) (second : got depths n ≡ readLine nearest w m) where
       pub lines-then : readEnd (rowText w samples depths) n ≡ readLines w l
       unfolding readLines
       lines-then = rw (← first, ← second)

@@ -1,10 +1,11 @@
--- Document 01, "Small rows and sessions", its last paragraphs: the text that the row printer reads.
+-- Document 01, "Small rows and sessions", its last paragraphs: the text that the row printer reads, with the ten bits of document 02, card 12.
 use Prim.Native.Nat.{ℕ, zero, suc, _+_, _/_, _%_, _≤_}
 use mathlib.Core.Path.{_≡_}
 use mathlib.Core.Bool.{cond}
 use mathlib.Core.List.{List, [], _∷_, _++_}
 use lib.Dec.{ltb}
 use lib.ListN.{length}
+use Rattle.model.specs.Row.{greatest}
 
 -- What a text says: w, the samples and the depths.
 pub record RowText : Type 0 where
@@ -20,14 +21,18 @@ abbrev pub AtMost : ℕ → List ℕ → Type 0
 AtMost most [] = Unit {0}
 AtMost most (n ∷ ns) = (n ≤ most) × AtMost most ns
 
--- w from 1 to 64; w samples; w depths; samples and depths each 0 to 255
+-- the greatest depth, since larger is nearer
+abbrev pub nearest : ℕ
+nearest = 255
+
+-- w from 1 to 64; w samples; w depths; samples each 0 to 1,023 and depths each 0 to 255
 pub record Valid (r : RowText) : Type 0 where
   pub w-least : 1 ≤ r .w
   pub w-most : r .w ≤ 64
   pub samples : length (r .samples) ≡ r .w
   pub depths : length (r .depths) ≡ r .w
-  pub sample-range : AtMost 255 (r .samples)
-  pub depth-range : AtMost 255 (r .depths)
+  pub sample-range : AtMost greatest (r .samples)
+  pub depth-range : AtMost nearest (r .depths)
 
 -- the bytes of the text
 abbrev pub digit : ℕ → ℕ

@@ -12,7 +12,8 @@ use Rattle.rowtext.specs.declared.End.{End}
 use Rattle.rowtext.specs.declared.End.the-variants.{At, Broken}
 use Rattle.rowtext.specs.declared.Parsed.{Parsed}
 use Rattle.rowtext.specs.declared.Parsed.the-variants.{Row, Bad}
-use Rattle.rowtext.specs.Format.{RowText, rowText, space, newline}
+use Rattle.model.specs.Row.{greatest}
+use Rattle.rowtext.specs.Format.{RowText, rowText, nearest, space, newline}
 use Rattle.rowtext.specs.Promise.{ZeroFrom}
 
 -- What a step reads, with the bytes that are left after it; or nothing.
@@ -62,7 +63,7 @@ abbrev pub prepend : ℕ → Step (List ℕ) → Step (List ℕ)
 prepend v (got vs l) = got (v ∷ vs) l
 prepend v nothing = nothing
 
--- a line of n numbers
+-- a line of n numbers, each at most `most`
 unfoldable pub readLine : ℕ → ℕ → List ℕ → Step (List ℕ)
 readLine most zero l = got [] l
 readLine most (suc n) l = then (readField most (markOf n) l) (λ v rest. prepend v (readLine most n rest))
@@ -75,7 +76,7 @@ readEnd r (b ∷ bs) = nothing
 -- the two lines after w
 unfoldable pub readLines : ℕ → List ℕ → Step RowText
 readLines w l =
-    then (readLine 255 w l) (λ samples rest. then (readLine 255 w rest) (λ depths rest. readEnd (rowText w samples depths) rest))
+    then (readLine greatest w l) (λ samples rest. then (readLine nearest w rest) (λ depths rest. readEnd (rowText w samples depths) rest))
 
 -- the whole text
 unfoldable pub readRow : List ℕ → Step RowText
@@ -107,6 +108,7 @@ lineStep text n values Broken = nothing
 
 pub record LinePost (text : List ℕ) (n : ℕ) (step : Step (List ℕ)) (values : List ℕ) (r : End) : Type 0 where
   pub read : lineStep text n values r ≡ step
+  pub size : length values ≡ 64
   pub spare : ZeroFrom n values
 
 -- the whole row: the first w entries of samples and of depths

@@ -1,7 +1,8 @@
 // The text that the row printer reads: three lines of decimal numbers, read by position.
 ghost use mathlib.Core.Path.{_≡_};
-ghost use Prim.Native.Nat.{_+_, _-_, _*_, _≤_, _<_};
-ghost use lib.ListN.{getD, drop, replicate};
+ghost use Prim.Native.Nat.{ℕ, _+_, _-_, _*_, _≤_, _<_};
+ghost use lib.ListN.{length, getD, drop, replicate};
+ghost use Rattle.rowtext.specs.Format.{nearest};
 ghost use Rattle.rowtext.specs.Promise.{ReadPost};
 ghost use Rattle.rowtext.specs.Reader.{
   nothing,
@@ -31,7 +32,7 @@ enum End {
 // A line's numbers, and 0 past them.
 struct Line {
     end: End,
-    values: [u8; 64],
+    values: [u16; 64],
 }
 
 // Whether a text is that of a row, and its w.
@@ -43,7 +44,7 @@ pub enum Parsed {
 // A row that was read: the first w samples and depths, and 0 past them.
 pub struct Reading {
     pub parsed: Parsed,
-    pub samples: [u8; 64],
+    pub samples: [u16; 64],
     pub depths: [u8; 64],
 }
 
@@ -74,9 +75,9 @@ fn digit_at(text: &[u8], at: usize) -> u16
     digit_of(byte_at(text, at))
 }
 
-// The number at a position, if it is at most `most`.
+// The number at a position, if it is at most `most`. Ten times that, and a digit, fit 16 bits.
 fn read_number(text: &[u8], at: usize, most: u16) -> Number
-    requires { ⌜ (9 ≤ most) × (most ≤ 1023) ⌝ }
+    requires { ⌜ (9 ≤ most) × (most ≤ 6000) ⌝ }
     ensures { λ r. ⌜ NumberPost (now (text .entry)) most (readNumber most (drop at (now (text .entry)))) r ⌝ }
 {
     let first = digit_at(text, at);
@@ -106,7 +107,7 @@ fn read_number(text: &[u8], at: usize, most: u16) -> Number
 
 // The number at a position and the byte `mark` that ends it.
 fn read_field(text: &[u8], at: usize, most: u16, mark: u8) -> Number
-    requires { ⌜ (9 ≤ most) × (most ≤ 1023) × (0 < mark) ⌝ }
+    requires { ⌜ (9 ≤ most) × (most ≤ 6000) × (0 < mark) ⌝ }
     ensures { λ r. ⌜ NumberPost (now (text .entry)) most (readField most mark (drop at (now (text .entry)))) r ⌝ }
 {
     let Number::Found { value, next } = read_number(text, at, most) else {
@@ -128,37 +129,29 @@ fn mark_of(n: usize) -> u8
     if n == 0 { 10 } else { 32 }
 }
 
-// A number of a line as the byte that holds it.
-fn narrow(value: u16) -> u8
-    requires { ⌜ value ≤ 255 ⌝ }
-    ensures { λ r. ⌜ r ≡ value ⌝ }
-{
-    value as u8
-}
-
 // Room for the numbers of a line.
-fn zeros() -> [u8; 64]
+fn zeros() -> [u16; 64]
     ensures { λ r. ⌜ r ≡ replicate 64 0 ⌝ }
 {
     [0; 64]
 }
 
-// A line of w numbers, each 0 to 255.
-fn read_line(text: &[u8], from: usize, w: usize) -> Line
-    requires { ⌜ w ≤ 64 ⌝ }
-    ensures { λ r. ⌜ LinePost (now (text .entry)) w (readLine 255 w (drop from (now (text .entry)))) (r .values) (r .end) ⌝ }
+// A line of w numbers, each 0 to `most`.
+fn read_line(text: &[u8], from: usize, w: usize, most: u16) -> Line
+    requires { ⌜ (w ≤ 64) × (9 ≤ most) × (most ≤ 6000) ⌝ }
+    ensures { λ r. ⌜ LinePost (now (text .entry)) w (readLine most w (drop from (now (text .entry)))) (r .values) (r .end) ⌝ }
 {
     let mut values = zeros();
     let mut at = from;
     let mut k: usize = 0;
     while k < w {
-        let Number::Found { value, next } = read_field(text, at, 255, mark_of(w - k - 1)) else {
+        let Number::Found { value, next } = read_field(text, at, most, mark_of(w - k - 1)) else {
             return Line {
                 end: End::Broken,
                 values: values,
             };
         };
-        values[k] = narrow(value);
+        values[k] = value;
         at = next;
         k += 1;
     }
@@ -168,6 +161,28 @@ fn read_line(text: &[u8], from: usize, w: usize) -> Line
     }
 }
 
+// A number as the byte that holds it.
+fn narrow(value: u16) -> u8
+    requires { ⌜ value ≤ nearest ⌝ }
+    ensures { λ r. ⌜ r ≡ value ⌝ }
+{
+    value as u8
+}
+
+// Depths as the bytes that hold them.
+fn bytes(values: &[u16; 64]) -> [u8; 64]
+    requires { ⌜ (length (now values) ≡ 64) × ((i : ℕ) → getD (now values) i 0 ≤ nearest) ⌝ }
+    ensures { λ r. ⌜ r ≡ now (values .entry) ⌝ }
+{
+    let mut narrowed = [0u8; 64];
+    let mut i = 0;
+    while i < 64 {
+        narrowed[i] = narrow(values[i]);
+        i += 1;
+    }
+    narrowed
+}
+
 // The answer to a text that is no row's.
 fn bad() -> Reading
     ensures { λ r. ⌜ RowPost nothing (r .parsed) (r .samples) (r .depths) ⌝ }
@@ -175,7 +190,7 @@ fn bad() -> Reading
     Reading {
         parsed: Parsed::Bad,
         samples: zeros(),
-        depths: zeros(),
+        depths: [0; 64],
     }
 }
 
@@ -184,12 +199,12 @@ fn read_lines(text: &[u8], from: usize, w: usize) -> Reading
     requires { ⌜ w ≤ 64 ⌝ }
     ensures { λ r. ⌜ RowPost (readLines w (drop from (now (text .entry)))) (r .parsed) (r .samples) (r .depths) ⌝ }
 {
-    let first = read_line(text, from, w);
+    let first = read_line(text, from, w, 1023);
     let first_end = first.end;
     let End::At(middle) = first_end else {
         return bad();
     };
-    let second = read_line(text, middle, w);
+    let second = read_line(text, middle, w, 255);
     let second_end = second.end;
     let End::At(stop) = second_end else {
         return bad();
@@ -202,7 +217,7 @@ fn read_lines(text: &[u8], from: usize, w: usize) -> Reading
     Reading {
         parsed: Parsed::Row(w),
         samples: samples,
-        depths: depths,
+        depths: bytes(&depths),
     }
 }
 

@@ -14,7 +14,7 @@ use Rattle.model.specs.declared.Block.{Block}
 use Rattle.model.specs.declared.Opened.{Opened}
 use Rattle.model.specs.declared.Trial.{Trial}
 use Rattle.model.specs.declared.Edited.{Edited}
-use Rattle.model.specs.Planes.{Pictures, Depths, Held, State, withTotal}
+use Rattle.model.specs.Planes.{Pictures, Depths, Held, State, withTotal, readHeld}
 use Rattle.model.specs.Fresh.{fresh, freshTotal}
 use Rattle.model.specs.Blocks.{written, changeOf}
 use Rattle.model.specs.Refusals.{numberOf, unless, ownThen, earlyNumber, callNumber, inRange}
@@ -23,6 +23,7 @@ use Rattle.model.proofs.Choice.{bool-cases}
 use Rattle.model.proofs.Fresh.{fresh-total, freshTotal-total}
 use Rattle.model.proofs.Written.{written-total}
 use Rattle.model.proofs.Refusals.{own-stays, own-rest, own-usual, own-total}
+use Rattle.model.proofs.Readings.{sound-read}
 use Rattle.model.proofs.Promises.{set-settings, set-sound}
 use Rattle.run.specs.Run.{Call, Reply, Event, Run, plainNumber, plainNext, plainAnswer, plainReply, plainState, plainEvents, plainEnd, Local, Kept, AllKept, Usual, AllUsual, RunPost, stateAfter}
 use Rattle.run.specs.Run.Call.{get, set}
@@ -38,6 +39,9 @@ module _ (s : Settings) (p : Pictures) (d : Depths) (ok : Ready s p d) (v : ℕ)
   sound : Sound S p d (fresh s p d)
   sound = record { held = sym (fresh-total s _ p d); total = sym (freshTotal-total s _ p d) }
 
+  sound-as-read : Sound S p d (readHeld (fresh s p d))
+  sound-as-read = sound-read S p d (ok .depths) (ok .share) (fresh s p d) sound
+
   early : earlyNumber S p d (fresh s p d) v b (length c) ≡ plainNumber s v b c
   early = ready-common s p d _ _ ok ∙ own-total s _ v b (length c) 0
 
@@ -46,26 +50,26 @@ module _ (s : Settings) (p : Pictures) (d : Depths) (ok : Ready s p d) (v : ℕ)
 
   -- 8 never applies
   settled :
-      (x : ℤ) → (earlyNumber S p d (fresh s p d) v b (length c) ≡ 0 → Sound S p d (fresh s p d) → inRange S x ≡ true) →
+      (x : ℤ) → (earlyNumber S p d (fresh s p d) v b (length c) ≡ 0 → Sound S p d (readHeld (fresh s p d)) → inRange S x ≡ true) →
       callNumber S p d (fresh s p d) v b (length c) x ≡ plainNumber s v b c
   settled x h =
       bool-cases (eqb (plainNumber s v b c) 0)
       (λ t.
       let e = eqb-true _ _ t in
-      let i = h (early ∙ e) sound in
+      let i = h (early ∙ e) sound-as-read in
       call x ∙ own-rest s v b (length c) _ e ∙ ap (λ (y : Bool). unless y 8 0) i ∙ sym e)
       (λ f. call x ∙ own-stays s v b (length c) _ (eqb-false _ _ f))
 
   answered :
       (x change : ℤ) (n : ℕ) → n ≡ plainNumber s v b c → ((n ≡ 0 → ⊥) → change ≡ pos 0) → (n ≡ 0 → change ≡ x) →
-      (earlyNumber S p d (fresh s p d) v b (length c) ≡ 0 → Sound S p d (fresh s p d) → x ≡ changeOf S p d v b c) →
+      (earlyNumber S p d (fresh s p d) v b (length c) ≡ 0 → Sound S p d (readHeld (fresh s p d)) → x ≡ changeOf S p d v b c) →
       record { number = n; change = change } ≡ plainAnswer s p d v b c
   unfolding plainAnswer
   answered x change n e none some decided =
       bool-cases (eqb (plainNumber s v b c) 0)
       (λ t.
       let z = eqb-true _ _ t in
-      let g : change ≡ changeOf s p d v b c = some (e ∙ z) ∙ decided (early ∙ z) sound ∙ changeOf-total s _ p d v b c in
+      let g : change ≡ changeOf s p d v b c = some (e ∙ z) ∙ decided (early ∙ z) sound-as-read ∙ changeOf-total s _ p d v b c in
       rw (t, e, g))
       (λ f.
       let z : n ≡ 0 → ⊥ = λ q. eqb-false _ _ f (sym e ∙ q) in

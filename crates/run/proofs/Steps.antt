@@ -20,7 +20,7 @@ use Rattle.model.proofs.Lists.{getD-row, getD-listOf}
 use Rattle.model.proofs.Fresh.{DepthsSized, freshTotal-total, row-fresh-samples, row-fresh-fronts, row-fresh-limits, mark-fresh, row-fresh-combined, length-fresh-samples, length-fresh-fronts, length-fresh-limits, length-fresh-marks, length-fresh-combined, view-fresh}
 use Rattle.model.proofs.Written.{written-total, written-out}
 use Rattle.model.proofs.Locality.{Columns, sized-written, shown-stays, sample-stays, limits-stay}
-use Rattle.model.proofs.Refusals.{Size, PicturesOf, ViewOf, HeldOf, Tables, common-facts, common-yes, own-facts}
+use Rattle.model.proofs.Refusals.{Size, PicturesOf, ViewOf, HeldOf, Tables, common-facts, common-yes, common-passed, own-facts}
 use Rattle.run.specs.Run.{shownIn, Local, plainNumber}
 
 pub changeOf-total : (s : Settings) (t : ℕ) (p : Pictures) (d : Depths) (v : ℕ) (b : Block) (c : List ℕ) → changeOf (withTotal s t) p d v b c ≡ changeOf s p d v b c
@@ -37,7 +37,7 @@ pub record Ready (s : Settings) (p : Pictures) (d : Depths) : Type 0 where
 
 pub ready : (s : Settings) (p : Pictures) (d : Depths) (h : Held) → openNumber s p d h ≡ 0 → Ready s p d
 ready s p d h e =
-    let f = common-facts s p d h e in
+    let f = common-facts s p d h (common-passed s p d h _ e) in
     record { size = f .size; pictures = f .pictures; depths = f .depths; tables = f .tables; share = f .share }
 
 pub ready-written : (s : Settings) (p : Pictures) (v : ℕ) (b : Block) (c : List ℕ) (d : Depths) → Ready s p d → Ready s p (written s v b c d)

@@ -16,13 +16,12 @@ use Rattle.model.specs.Views.{isRight}
 use Rattle.model.specs.Planes.{Pictures, Depths, View, Held, withTotal, tableOf, textureOf, depthsOf, viewOf}
 use Rattle.model.specs.Refusals.{numberOf, tableOk, earlyNumber}
 use Rattle.model.specs.Promises.{SetPost}
-use Rattle.model.proofs.Totals.{BytePictures}
 use Rattle.trial.specs.Trial.{Around, Own, Fits}
 use Rattle.trial.specs.Trial as trial
 use Rattle.trial.proofs.Sound.{aroundOf, ownOf}
 use Rattle.commit.specs.Commit as commit
 use Rattle.combine.specs.Combine.{OtherSized, BlockIn}
-use Rattle.combine.proofs.Session.{own-sized, withDepths, withView, set-depths, set-untouched, set-fresh}
+use Rattle.combine.proofs.Session.{own-sized, withDepths, withView, set-depths, set-untouched, set-fresh, set-read}
 use Rattle.decide.specs.declared.Decision.{Decision}
 use Rattle.decide.proofs.Ways.{passed, tried, decided-early, decided-late}
 use Rattle.set.specs.Settled.{OwnSettled, Settled}
@@ -70,7 +69,8 @@ module _ (s : Settings) (p : Pictures) (d₀ : Depths) (h₀ : Held) (v : ℕ) (
         wrote = λ z. record {
           depths = set-depths s p d₀ h₀ v b c r side d′ v′ c′ (o .set z);
           untouched = set-untouched s p d₀ h₀ v b c r side d′ v′ c′ (o .set z);
-          held = λ sound. set-fresh s p d₀ h₀ v b c r side d′ v′ c′ (o .set z) (f .common .depths) sound;
+          held = λ sound. set-fresh s p d₀ h₀ v b c r side d′ v′ c′ (o .set z) (f .common .depths) (f .common .share) sound;
+          read = λ sound. set-read s p d₀ h₀ v b c r side d′ v′ c′ (o .set z) (f .common .depths) sound;
         };
       }
 
@@ -94,12 +94,13 @@ module _ (s : Settings) (p : Pictures) (d₀ : Depths) (h₀ : Held) (v : ℕ) (
         decided = made .answer .decided;
         in-range = made .answer .in-range;
         held = λ z. absurd (ne z);
+        read = λ z. absurd (ne z);
       }
 
   -- x is the change as it is answered
-  pub settled : (r : Decision) (x : ℤ) → x ≡ r .change → (d : Depths) (h : Held) → earlyNumber s p d₀ h₀ v b (length c) ≡ 0 → BytePictures p → Settled s p d₀ d h₀ h v b c r → SetPost s p d₀ d h₀ h v b c (record { refusal = r .refusal; change = x; settings = withTotal s (r .total) })
-  settled r x e d h early byte w =
-      let made = decided-late s p d₀ h₀ v b c r early byte (w .tried) (w .judged) in
+  pub settled : (r : Decision) (x : ℤ) → x ≡ r .change → (d : Depths) (h : Held) → earlyNumber s p d₀ h₀ v b (length c) ≡ 0 → Settled s p d₀ d h₀ h v b c r → SetPost s p d₀ d h₀ h v b c (record { refusal = r .refusal; change = x; settings = withTotal s (r .total) })
+  settled r x e d h early w =
+      let made = decided-late s p d₀ h₀ v b c r early (w .tried) (w .judged) in
       record {
         found = made .answer .found;
         number = made .answer .number;
@@ -114,4 +115,5 @@ module _ (s : Settings) (p : Pictures) (d₀ : Depths) (h₀ : Held) (v : ℕ) (
         decided = made .answer .decided;
         in-range = made .answer .in-range;
         held = λ z sound. w .wrote z .held (sound .held);
+        read = λ z sound. w .wrote z .read (sound .held);
       }

@@ -6,7 +6,7 @@ use mathlib.Core.List.{List}
 use Rattle.model.specs.declared.Settings.{Settings}
 use Rattle.model.specs.declared.Block.{Block}
 use Rattle.model.specs.Combined.{worst}
-use Rattle.model.specs.Planes.{Pictures, Depths, View, Held, area}
+use Rattle.model.specs.Planes.{Pictures, Depths, View, Held, area, readHeld}
 use Rattle.model.specs.Fresh.{fresh}
 use Rattle.model.specs.Blocks.{written}
 use Rattle.model.specs.Refusals.{numberOf}
@@ -28,11 +28,13 @@ pub record OwnSettled (right : Bool) (t : List ℕ) (share tolerance total w h :
   pub kept-combined : (numberOf (r .refusal) ≡ 0 → ⊥) → c′ ≡ c
   pub set : numberOf (r .refusal) ≡ 0 → BlockSet right t share tolerance w h b texture candidate s₂ f₂ m₂ d d′ v v′ c c′
 
--- The depths are written in the block, whatever the planes hold; where the planes held the fresh drawing, they hold that of the written depths.
+-- The depths are written in the block, whatever the planes hold; where the planes held the fresh drawing, they hold that of the written depths, as
+-- they stand and as they are read.
 pub record Wrote (s : Settings) (p : Pictures) (d₀ d : Depths) (h₀ h : Held) (v : ℕ) (b : Block) (c : List ℕ) : Type 0 where
   pub depths : d ≡ written s v b c d₀
   pub untouched : Untouched s v b h₀ h
   pub held : h₀ ≡ fresh s p d₀ → h ≡ fresh s p (written s v b c d₀)
+  pub read : readHeld h₀ ≡ fresh s p d₀ → readHeld h ≡ fresh s p (written s v b c d₀)
 
 -- The same in the words of the model: the candidate is written, or nothing is changed.
 pub record Settled (s : Settings) (p : Pictures) (d₀ d : Depths) (h₀ h : Held) (v : ℕ) (b : Block) (c : List ℕ) (r : Decision) : Type 0 where

@@ -3,6 +3,7 @@
 --     own-hole                  the tie of two holes as a sum
 --     paired-shared             where the two are shared
 --     paired-chosen             where one is taken
+--     paired-most               it is no greater than a sample may be
 use Prim.Native.Nat.{ℕ, _+_, _-_, _*_, _<_, _≤_}
 use mathlib.Core.Path.{_≡_}
 use mathlib.Core.Bool.{Bool, true, false, cond}
@@ -14,8 +15,10 @@ use lib.Dec.{leb, ltb, eqb}
 use lib.Bits.{bitOr, or-add-and, and-le-l, and-le-r}
 use borrow.Author.Tests.{ltb-true, ltb-false, lt-ltb, le-ltb, le-leb, lt-leb, eq-eqb, eqb-true}
 use Rattle.model.specs.declared.Pixel.{Pixel}
+use Rattle.model.specs.Row.{greatest}
 use Rattle.model.specs.Combined.{apart, shared, bothShown, bothHoles, combinedOf}
 use Rattle.model.proofs.Choice.{bool-cases}
+use Rattle.model.proofs.Totals.{combined-most}
 use Rattle.sums.specs.Sides.{paired, ownShare, ownHole, prefersOwn}
 
 pub both-shown : (a b : ℕ) → bitOr a b ≡ 0 → (a ≡ 0) × (b ≡ 0)
@@ -53,6 +56,12 @@ paired-shared false share tolerance own other h p q near =
       rest,
       add-comm (other .sample * share) (own .sample * (64 - share)),
     )
+
+-- of two samples that are read neither combines to more
+pub paired-most : (right : Bool) (share tolerance : ℕ) (own other : Pixel) → share ≤ 64 → own .sample ≤ greatest → other .sample ≤ greatest → paired right share tolerance own other ≤ greatest
+unfolding paired
+paired-most true share tolerance own other h a b = combined-most share tolerance other own h b a
+paired-most false share tolerance own other h a b = combined-most share tolerance own other h a b
 
 -- two marks 0 of far depths, told by the left view and by the right
 module _ (share tolerance : ℕ) (own other : Pixel) (far : tolerance < apart (own .front) (other .front)) where

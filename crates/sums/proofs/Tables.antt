@@ -1,7 +1,7 @@
 -- A rule of a table, shown over the whole table by one computed test.
 --     every            the test passes at each entry of a list, with its place
 --     every-at         so it passes at any one entry
---     squares-table    a table of 256 entries whose test passes is the table of squares
+--     squares-table    a table of 1,024 entries whose test passes is the table of squares
 use Prim.Native.Nat.{ℕ, zero, suc, _+_, _*_, _<_}
 use mathlib.Core.Path.{_≡_, sym, subst, _∙_}
 use mathlib.Core.Bool.{Bool, true, _&&_}
@@ -34,6 +34,6 @@ every-at test xs t k h = subst (λ (m : ℕ). test m (getD xs k 0) ≡ true) (ze
 abbrev pub isSquare : ℕ → ℕ → Bool
 isSquare i x = eqb x (i * i)
 
-pub squares-table : (xs : List ℕ) → length xs ≡ 256 → every isSquare 0 xs ≡ true → Squares xs
+pub squares-table : (xs : List ℕ) → length xs ≡ 1024 → every isSquare 0 xs ≡ true → Squares xs
 squares-table xs n t =
     record { at = λ i h. eqb-true (getD xs i 0) (i * i) (every-at isSquare xs t i (omega arith)) }

@@ -7,17 +7,18 @@
 use Prim.Native.Nat.{ℕ, _+_, _-_, _<_, _≤_, min}
 use mathlib.Core.Path.{_≡_, refl, sym, ap, _∙_}
 use mathlib.Core.Bool.{Bool, true, false}
-use mathlib.Core.Logic.{_⊎_, inl, inr}
+use mathlib.Core.Logic.{_⊎_, inl, inr, ⊎-elim}
 use mathlib.Core.List.{List}
 use native.Mathlib.Omega.{arith}
-use lib.ListN.{length, getD}
+use lib.ListN.{length, getD, List·getD-eq-default}
 use lib.IntN.{pos}
 use Rattle.model.specs.declared.Pixel.{Pixel}
 use Rattle.model.specs.Lists.{sumTo}
 use Rattle.model.specs.Refusals.{tableOk}
-use Rattle.model.specs.Row.{Line, line, width, place, placeIn, limit, pixel, pixelAt, limitAt}
+use Rattle.model.specs.Row.{Line, line, width, place, placeIn, limit, greatest, sampleIn, pixel, pixelAt, limitAt}
 use Rattle.model.specs.Views.{seen, entryOf}
 use Rattle.model.specs.Combined.{worst, squareError}
+use Rattle.model.proofs.Choice.{lt-or-le}
 use Rattle.model.proofs.Spans.{edited-moved, moved-limit, span-pixel, span-limit}
 use Rattle.model.proofs.Sums.{sum-next, sum-same, sum-join, sum-part, sum-turn, sum-change}
 use Rattle.model.proofs.Views.{length-seen, entry-within, entry-entry}
@@ -70,10 +71,10 @@ pub measured-none : (o : Around) (from : ℕ) (g : ℕ → Pixel) → Measured o
 unfolding sumTo
 measured-none o from g = record { olds = refl; news = refl; old-most = omega arith; new-most = omega arith }
 
-pub measured-next : {o : Around} {from k : ℕ} {g : ℕ → Pixel} {old new x y : ℕ} → Measured o from k g old new → x ≡ squareError (getD (o .combined) (from + k) 0) (getD (o .reference) (from + k) 0) → x ≤ worst → y ≡ errorWith o (g k) (from + k) → y ≤ worst → Measured o from (k + 1) g (old + x) (new + y)
+pub measured-next : {o : Around} {from k : ℕ} {g : ℕ → Pixel} {old new x y : ℕ} → Measured o from k g old new → x ≡ squareError (sampleIn (o .combined) (from + k)) (sampleIn (o .reference) (from + k)) → x ≤ worst → y ≡ errorWith o (g k) (from + k) → y ≤ worst → Measured o from (k + 1) g (old + x) (new + y)
 measured-next {o} {from} {k} {g} t ex hx ey hy =
     record {
-      olds = rw (t .olds, ex) (sym (sum-next (λ i. squareError (getD (o .combined) (from + i) 0) (getD (o .reference) (from + i) 0)) k));
+      olds = rw (t .olds, ex) (sym (sum-next (λ i. squareError (sampleIn (o .combined) (from + i)) (sampleIn (o .reference) (from + i))) k));
       news = rw (t .news, ey) (sym (sum-next (λ i. errorWith o (g i) (from + i)) k));
       old-most = omega (arith, t .old-most);
       new-most = omega (arith, t .new-most);
@@ -99,7 +100,7 @@ module _ (o : Around) (w start n at : ℕ) (fits : start + n ≤ w) (part : at �
   unfolding heldError shownError
   measured-summed g s f m ls lf lm p t =
       let r = o .right in
-      let held : ℕ → ℕ = λ i. squareError (getD (o .combined) i 0) (getD (o .reference) i 0) in
+      let held : ℕ → ℕ = λ i. squareError (sampleIn (o .combined) i) (sampleIn (o .reference) i) in
       let shown : ℕ → ℕ → Pixel → ℕ = λ k i q. errorWith o q i in
       let strip : ℕ → Pixel = λ k. pixel (getD s k 0) (getD m k 0) (getD f k 0) in
       let pixels : (i : ℕ) → i < n → strip (entryOf r n i) ≡ g (start + i) = λ i k.
@@ -115,6 +116,14 @@ module _ (o : Around) (w start n at : ℕ) (fits : start + n ≤ w) (part : at �
         old-most = omega (arith, t .old-most);
         new-most = omega (arith, t .new-most);
       }
+
+-- a strip that is painted with samples that are read holds no higher one
+pub strip-most : (r : Bool) (g : ℕ → Pixel) (s : List ℕ) {n : ℕ} {f m x y z : List ℕ} → length s ≡ n → Painted g 0 n x y z (seen r s) f m → ((i : ℕ) → g i .sample ≤ greatest) → (k : ℕ) → getD s k 0 ≤ greatest
+strip-most r g s {n} ls p most k =
+    ⊎-elim
+    (λ h. let e = entry-within r n k h in rw (read-at 0 r s ls e (sym (entry-entry r n k h)) ∙ p .samples .inside (entryOf r n k) (omega arith) e) (most (entryOf r n k)))
+    (λ h. rw (List·getD-eq-default s 0 {n = k} (rw ls h)) (omega arith))
+    (lt-or-le k n)
 
 -- ---- the row's total
 
@@ -167,7 +176,7 @@ module _ (o : Around) (v : Own) (x : List ℕ) (first : ℕ) (ok : tableOk (v .t
       (λ i h l. ap (λ (q : Pixel). errorWith o q (entryOf r w i)) (out i l (inr h)))
       (λ i h l.
       let k : i < w = omega arith in
-      ap (λ (q : ℕ). squareError q (getD (o .reference) (entryOf r w i) 0))
+      ap (λ (q : ℕ). squareError q (sampleIn (o .reference) (entryOf r w i)))
       (truth .combined (entryOf r w i) (entry-within r w i k)
       ∙ ap (λ (z : ℕ). combinedWith o (pixelAt before (entryOf r z (entryOf r w i))) (entryOf r w i)) ld
       ∙ ap (λ (z : ℕ). combinedWith o (pixelAt before z) (entryOf r w i)) (entry-entry r w i k)))

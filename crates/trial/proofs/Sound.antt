@@ -1,4 +1,4 @@
--- A trial of held planes that are the fresh drawing tells the change of the fresh total.
+-- A trial of held planes that are, as they are read, the fresh drawing tells the change of the fresh total.
 --     aroundOf, ownOf       what GET and SET lend to the trial of a view
 --     rows-true             the block's rows hold the truth
 --     total-row             a row's share of the fresh total, as the trial has it
@@ -14,12 +14,12 @@ use Rattle.model.specs.declared.Settings.{Settings}
 use Rattle.model.specs.declared.Block.{Block}
 use Rattle.model.specs.declared.Pixel.{Pixel}
 use Rattle.model.specs.Lists.{listOf, rowOf, sumTo}
-use Rattle.model.specs.Row.{Line, line, width, Row, pixelAt, limitAt, leftRow}
+use Rattle.model.specs.Row.{Line, line, width, sampleIn, Row, pixelAt, limitAt, leftRow}
 use Rattle.model.specs.Views.{isRight, seen, viewRow, entryOf}
 use Rattle.model.specs.Marks.{markBytes}
 use Rattle.model.specs.Combined.{squareError}
-use Rattle.model.specs.Planes.{Pictures, Depths, View, Held, tableOf, textureOf, depthsOf, viewOf}
-use Rattle.model.specs.Fresh.{lineOf, freshRow, freshView, freshSample, fresh, freshTotal, shownAt}
+use Rattle.model.specs.Planes.{Pictures, Depths, View, Held, tableOf, textureOf, depthsOf, viewOf, readView, readHeld}
+use Rattle.model.specs.Fresh.{lineOf, freshRow, freshView, freshSample, freshCombined, fresh, freshTotal, shownAt}
 use Rattle.model.specs.Blocks.{inRows, written, writtenPlane}
 use Rattle.model.specs.Span.{firstColumn}
 use Rattle.model.proofs.Lists.{getD-listOf, getD-row, length-row, rows-apart}
@@ -28,10 +28,12 @@ use Rattle.model.proofs.Views.{seenLine, length-seen, seen-seen, shown-view}
 use Rattle.model.proofs.Fresh.{DepthsSized, depths-length, wide, row-fresh-samples, row-fresh-fronts, row-fresh-limits, mark-fresh, row-fresh-combined, view-fresh}
 use Rattle.model.proofs.Written.{rows-under, rows-beyond, candidate-fits, written-row-in, written-own}
 use Rattle.model.proofs.Totals.{errorAt, total-rows}
+use Rattle.model.proofs.Readings.{sampleIn-row, view-read}
 use Rattle.model.proofs.Locality.{sized-written, other-row, row-out}
 use Rattle.model.proofs.Refusals.{Common, Own}
 use Rattle.planes.specs.Parts.{splice}
 use Rattle.marks.specs.Puts.{heldPixel}
+use Rattle.marks.proofs.Held.{entry-read, held-fresh}
 use Rattle.sums.specs.Sides.{paired}
 use Rattle.trial.specs.Trial as specs
 use Rattle.trial.specs.Trial.{Around, around, own, aroundRow, ownRow, shownIn, combinedWith, errorWith, rowTotal, RowHeld, totalBefore, totalAfter, BlockTrial}
@@ -70,15 +72,13 @@ seen-limits : (r : Bool) (l : Line) → seen r (viewRow r l .limits) ≡ listOf 
 unfolding viewRow leftRow
 seen-limits r l = seen-seen r (listOf (limitAt (seenLine r l)) (width (seenLine r l)))
 
-module _ (s : Settings) (p : Pictures) (d : Depths) (h : Held) (sized : DepthsSized s d) (same : h ≡ fresh s p d) where
-  held-view : (q : Bool) → viewOf h q ≡ freshView s p d q
-  held-view q = ap (λ (k : Held). viewOf k q) same ∙ view-fresh s p d q
+module _ (s : Settings) (p : Pictures) (d : Depths) (h : Held) (sized : DepthsSized s d) (same : readHeld h ≡ fresh s p d) where
+  held-view : (q : Bool) → readView (viewOf h q) ≡ freshView s p d q
+  held-view q = view-read h q ∙ ap (λ (k : Held). viewOf k q) same ∙ view-fresh s p d q
 
   -- what is held of a view at an entry is what its row shows there
   held-shown : (q : Bool) (y x : ℕ) → y < s .h → x < s .w → heldPixel (rowOf (viewOf h q .samples) (s .w) y) (rowOf (viewOf h q .fronts) (s .w) y) (rowOf (viewOf h q .marks) (markBytes (s .w)) y) x ≡ shownAt (freshRow s p d q y) x
-  unfolding heldPixel
-  held-shown q y x k l =
-      rw (held-view q, row-fresh-samples s p d sized q y k, row-fresh-fronts s p d sized q y k, mark-fresh s p d sized q y x k l)
+  held-shown q y x k l = held-fresh s p d sized q (viewOf h q) (held-view q) y x k l
 
   module _ (right : Bool) (y : ℕ) (k : y < s .h) where
     -- what the view's own row shows, for any depths
@@ -105,8 +105,8 @@ module _ (s : Settings) (p : Pictures) (d : Depths) (h : Held) (sized : DepthsSi
         let n : width l ≡ s .w = length-seen right (lineOf s p g right y .depths) ∙ wide s p g sg right y k in
         sum-same (errorAt s p g y) (λ i. errorWith o (shownIn right l i) i) (s .w)
         (λ x m.
-        ap (λ (q : ℕ). squareError q (getD (p .reference) (y * s .w + x) 0)) (combined-sample g sg e x m)
-        ∙ ap (λ (q : ℕ). squareError (combinedWith o (shownIn right l x) x) q) (sym (getD-row 0 (p .reference) (s .w) y x m)))
+        ap (λ (q : ℕ). squareError q (sampleIn (p .reference) (y * s .w + x))) (combined-sample g sg e x m)
+        ∙ ap (λ (q : ℕ). squareError (combinedWith o (shownIn right l x) x) q) (sym (sampleIn-row (p .reference) (s .w) y x m)))
         ∙ ap (sumTo (λ i. errorWith o (shownIn right l i) i)) (sym n)
 
     true-limit : (n : ℕ) → n < length (rowOf (depthsOf d right) (s .w) y) → getD (seen right (rowOf (viewOf h right .limits) (s .w) y)) n (pos 0) ≡ limitAt (seenLine right (lineOf s p d right y)) n
@@ -118,10 +118,10 @@ module _ (s : Settings) (p : Pictures) (d : Depths) (h : Held) (sized : DepthsSi
         ∙ ap (λ (z : List ℤ). getD z n (pos 0)) (seen-limits right l)
         ∙ getD-listOf (pos 0) (limitAt (seenLine right l)) (width (seenLine right l)) n (rw (length-seen right (l .depths)) m)
 
-    true-sample : (i : ℕ) → i < s .w → getD (rowOf (h .combined) (s .w) y) i 0 ≡ freshSample s p d y i
-    unfolding fresh
+    true-sample : (i : ℕ) → i < s .w → sampleIn (rowOf (h .combined) (s .w) y) i ≡ freshSample s p d y i
+    unfolding fresh readHeld
     true-sample i m =
-        ap (λ (q : Held). getD (rowOf (q .combined) (s .w) y) i 0) same
+        entry-read (h .combined) (freshCombined s p d) (s .w) y i (ap (λ (q : Held). q .combined) same) m
         ∙ ap (λ (z : List ℕ). getD z i 0) (row-fresh-combined s p d y k)
         ∙ getD-listOf 0 (freshSample s p d y) (s .w) i m
 
@@ -143,7 +143,7 @@ candidate-row w b c plane i fits inside e k =
     length-row c (b .width) i (rw z at (candidate-fits b c (b .row + i) e (omega arith) (omega arith))) in
     rw n (rw z at (written-row-in w b c plane (b .row + i) fits inside e (omega arith) (omega arith)))
 
-module _ (s : Settings) (p : Pictures) (d : Depths) (h : Held) (v : ℕ) (b : Block) (c : List ℕ) (sized : DepthsSized s d) (mine : Own s v b (length c)) (same : h ≡ fresh s p d) where
+module _ (s : Settings) (p : Pictures) (d : Depths) (h : Held) (v : ℕ) (b : Block) (c : List ℕ) (sized : DepthsSized s d) (mine : Own s v b (length c)) (same : readHeld h ≡ fresh s p d) where
   abbrev r : Bool
   r = isRight v
 
@@ -171,7 +171,7 @@ module _ (s : Settings) (p : Pictures) (d : Depths) (h : Held) (v : ℕ) (b : Bl
   row-stays y k o =
       sum-same (errorAt s p after y) (errorAt s p d y) (s .w)
       (λ x l.
-      ap (λ (q : ℕ). squareError q (getD (p .reference) (y * s .w + x) 0))
+      ap (λ (q : ℕ). squareError q (sampleIn (p .reference) (y * s .w + x)))
       (sample-paired s p after r y x
       ∙ ap (λ (q : Row). paired r (s .share) (s .tolerance) (shownAt q x) (shownAt (freshRow s p after (not r) y) x)) (row-out s p d v b c sized y k o)
       ∙ ap (λ (q : Row). paired r (s .share) (s .tolerance) (shownAt (freshRow s p d r y) x) (shownAt q x)) (other-row s p d v b c sized y)
@@ -193,7 +193,7 @@ module _ (s : Settings) (p : Pictures) (d : Depths) (h : Held) (v : ℕ) (b : Bl
       (t .change (λ i k. row-true s p d h sized same r (b .row + i) (row-in i k) _)))
 
 -- for the view that the entry is asked for
-pub trial-sound : (s : Settings) (p : Pictures) (d : Depths) (h : Held) (v : ℕ) (b : Block) (c : List ℕ) (right : Bool) {old new : ℕ} → Common s p d h → Own s v b (length c) → h ≡ fresh s p d → isRight v ≡ right → BlockTrial (s .w) (aroundOf s p h right) (ownOf s p d h right) b c (b .height) old new → freshTotal s p (written s v b c d) + old ≡ freshTotal s p d + new
+pub trial-sound : (s : Settings) (p : Pictures) (d : Depths) (h : Held) (v : ℕ) (b : Block) (c : List ℕ) (right : Bool) {old new : ℕ} → Common s p d h → Own s v b (length c) → readHeld h ≡ fresh s p d → isRight v ≡ right → BlockTrial (s .w) (aroundOf s p h right) (ownOf s p d h right) b c (b .height) old new → freshTotal s p (written s v b c d) + old ≡ freshTotal s p d + new
 trial-sound s p d h v b c right {old} {new} common mine same e t =
     trial-here s p d h v b c (common .depths) mine same
     (subst (λ (r : Bool). BlockTrial (s .w) (aroundOf s p h r) (ownOf s p d h r) b c (b .height) old new) (sym e) t)

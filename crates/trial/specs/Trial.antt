@@ -1,6 +1,7 @@
 -- What a candidate would change (document 01, "The span of an edit" and GET): one row, then a block of rows.
 --
--- The held planes may be anything. The sums below are exact for any of them, and end where the span ends by what is held;
+-- The held planes may be anything: samples, combined picture and reference are read (document 02, card 12). The sums below are exact for any of
+-- them, and end where the span ends by what is held;
 -- that they tell the change of the total is promised where the planes hold the truth on the block's rows.
 use Prim.Native.Nat.{ℕ, _+_, _-_, _*_, _<_, _≤_}
 use mathlib.Core.Path.{_≡_}
@@ -11,7 +12,7 @@ use lib.IntN.{ℤ, pos}
 use Rattle.model.specs.declared.Pixel.{Pixel}
 use Rattle.model.specs.declared.Block.{Block}
 use Rattle.model.specs.Lists.{rowOf, sumTo}
-use Rattle.model.specs.Row.{Line, line, width, placeIn, pixelAt, limitAt}
+use Rattle.model.specs.Row.{Line, line, width, placeIn, sampleIn, pixelAt, limitAt}
 use Rattle.model.specs.Views.{seen, entryOf}
 use Rattle.model.specs.Marks.{markBytes}
 use Rattle.model.specs.Combined.{worst, squareError}
@@ -90,7 +91,7 @@ combinedWith o q i = paired (o .right) (o .share) (o .tolerance) q (heldPixel (o
 
 -- and its squared error
 abbrev pub errorWith : Around → Pixel → ℕ → ℕ
-errorWith o q i = squareError (combinedWith o q i) (getD (o .reference) i 0)
+errorWith o q i = squareError (combinedWith o q i) (sampleIn (o .reference) i)
 
 -- the view's pixel at entry i
 abbrev pub shownIn : Bool → Line → ℕ → Pixel
@@ -103,11 +104,11 @@ rowTotal o l = sumTo (λ i. errorWith o (shownIn (o .right) l i) i) (width l)
 -- The row holds the truth, for an edit of columns below n: the limits from column n on, and the combined row.
 pub record RowHeld (o : Around) (v : Own) (n : ℕ) : Type 0 where
   pub limits : (c : ℕ) → n ≤ c → c < length (v .depths) → getD (seen (o .right) (v .limits)) c (pos 0) ≡ limitAt (standing (o .right) v) c
-  pub combined : (i : ℕ) → i < length (v .depths) → getD (o .combined) i 0 ≡ combinedWith o (shownIn (o .right) (standing (o .right) v) i) i
+  pub combined : (i : ℕ) → i < length (v .depths) → sampleIn (o .combined) i ≡ combinedWith o (shownIn (o .right) (standing (o .right) v) i) i
 
 -- the squared error at position p of a row of w, as the view reads it: of the held combined row, and where the view shows the pixels g
 unfoldable pub heldError : Around → ℕ → ℕ → ℕ
-heldError o w p = squareError (getD (o .combined) (entryOf (o .right) w p) 0) (getD (o .reference) (entryOf (o .right) w p) 0)
+heldError o w p = squareError (sampleIn (o .combined) (entryOf (o .right) w p)) (sampleIn (o .reference) (entryOf (o .right) w p))
 
 unfoldable pub shownError : Around → ℕ → (ℕ → Pixel) → ℕ → ℕ
 shownError o w g p = errorWith o (g p) (entryOf (o .right) w p)
@@ -121,7 +122,7 @@ pub record Summed (o : Around) (w : ℕ) (g : ℕ → Pixel) (start stop old new
 
 -- What is measured of n entries of a row from `from` on, where the view shows the pixels g: their squared errors, as held and as shown.
 pub record Measured (o : Around) (from n : ℕ) (g : ℕ → Pixel) (old new : ℕ) : Type 0 where
-  pub olds : old ≡ sumTo (λ k. squareError (getD (o .combined) (from + k) 0) (getD (o .reference) (from + k) 0)) n
+  pub olds : old ≡ sumTo (λ k. squareError (sampleIn (o .combined) (from + k)) (sampleIn (o .reference) (from + k))) n
   pub news : new ≡ sumTo (λ k. errorWith o (g k) (from + k)) n
   pub old-most : old ≤ worst * n
   pub new-most : new ≤ worst * n

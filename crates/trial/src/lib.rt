@@ -1,12 +1,12 @@
 // What a candidate would change: each of the block's rows drawn over the span alone, strip by strip from the right, and measured.
 use model::Pixel;
 use pixel::Pair;
-ghost use Prim.Native.Nat.{_+_, _-_, _*_, _/_, _≤_, _<_, min};
+ghost use Prim.Native.Nat.{ℕ, _+_, _-_, _*_, _/_, _≤_, _<_, min};
 ghost use mathlib.Core.Path.{_≡_};
 ghost use mathlib.Core.Bool.{true};
 ghost use lib.ListN.{length, getD};
 ghost use Rattle.model.specs.Lists.{rowOf};
-ghost use Rattle.model.specs.Row.{place, pixel};
+ghost use Rattle.model.specs.Row.{place, greatest, sampleIn, pixel};
 ghost use Rattle.model.specs.Views.{seen};
 ghost use Rattle.model.specs.Span.{firstColumn};
 ghost use Rattle.model.specs.Refusals.{tableOk};
@@ -85,41 +85,41 @@ fn wide(x: u32) -> u64
 // The squared error of the combined sample at entry i, where the view shows q.
 fn error_with(
     right: bool,
-    squares: &[u16; 256],
+    squares: &[u32; 1024],
     share: u8,
     tolerance: u8,
-    samples: &[u8],
+    samples: &[u16],
     fronts: &[u8],
     marks: &[u8],
-    reference: &[u8],
+    reference: &[u16],
     q: Pixel,
     i: usize,
 ) -> u32
-    requires { ⌜ (Squares (now squares)) × (share ≤ 64) ⌝ }
+    requires { ⌜ (Squares (now squares)) × ((share ≤ 64) × (q .sample ≤ greatest)) ⌝ }
     requires { ⌜ (i < length (now samples)) × ((i < length (now fronts)) × ((i < 8 * length (now marks)) × (i < length (now reference)))) ⌝ }
-    ensures { λ r. ⌜ (r ≡ squareError (paired right share tolerance q (heldPixel (now (samples .entry)) (now (fronts .entry)) (now (marks .entry)) i)) (getD (now (reference .entry)) i 0)) × (r ≤ worst) ⌝ }
+    ensures { λ r. ⌜ (r ≡ squareError (paired right share tolerance q (heldPixel (now (samples .entry)) (now (fronts .entry)) (now (marks .entry)) i)) (sampleIn (now (reference .entry)) i)) × (r ≤ worst) ⌝ }
 {
     let other = marks::held_pixel(samples, fronts, marks, i);
     sums::square_error(
         squares,
         sums::paired(right, share, tolerance, q, other),
-        reference[i],
+        model::sample_in(reference, i),
     )
 }
 
 // The sums over the entries of a row from `from` on, where the view shows what the strip holds: its samples s, front depths f and marks m.
 fn measure(
     right: bool,
-    squares: &[u16; 256],
+    squares: &[u32; 1024],
     share: u8,
     tolerance: u8,
-    samples: &[u8],
+    samples: &[u16],
     fronts: &[u8],
     marks: &[u8],
-    combined: &[u8],
-    reference: &[u8],
+    combined: &[u16],
+    reference: &[u16],
     from: usize,
-    s: &[u8],
+    s: &[u16],
     f: &[u8],
     m: &[u8],
 ) -> Sums
@@ -127,6 +127,7 @@ fn measure(
     requires { ⌜ Beside (length (now reference)) (now samples) (now fronts) (now marks) (now combined) ⌝ }
     requires { ⌜ (from + length (now s) ≤ length (now reference)) × (length (now reference) ≤ 4096) ⌝ }
     requires { ⌜ (length (now f) ≡ length (now s)) × (length (now m) ≡ length (now s)) ⌝ }
+    requires { ⌜ ((k : ℕ) → getD (now s) k 0 ≤ greatest) ⌝ }
     ensures { λ r. ⌜ Measured (around right share tolerance (now (samples .entry)) (now (fronts .entry)) (now (marks .entry)) (now (combined .entry)) (now (reference .entry)))
         from (length (now (s .entry))) (λ k. pixel (getD (now (s .entry)) k 0) (getD (now (m .entry)) k 0) (getD (now (f .entry)) k 0)) (r .old) (r .new) ⌝ }
 {
@@ -153,7 +154,7 @@ fn measure(
             i,
         );
         new += wide(error);
-        old += wide(sums::square_error(squares, combined[i], reference[i]));
+        old += wide(sums::error_at(squares, combined, reference, i));
         k += 1;
     }
     Sums { old, new }
@@ -163,21 +164,21 @@ fn measure(
 fn trial_into(
     right: bool,
     table: &[u16; 256],
-    squares: &[u16; 256],
+    squares: &[u32; 1024],
     share: u8,
     tolerance: u8,
-    texture: &[u8],
+    texture: &[u16],
     depths: &[u8],
     candidate: &[u8],
     column: usize,
-    samples: &[u8],
+    samples: &[u16],
     fronts: &[u8],
     marks: &[u8],
-    combined: &[u8],
-    reference: &[u8],
+    combined: &[u16],
+    reference: &[u16],
     from: Pair,
     start: usize,
-    s: &mut [u8],
+    s: &mut [u16],
     f: &mut [u8],
     m: &mut [u8],
 ) -> Strip
@@ -225,7 +226,14 @@ fn trial_into(
     }
 }
 
-// Room for one plane of a strip.
+// Room for the samples of a strip.
+fn sample_room() -> [u16; 32]
+    ensures { λ r. ⌜ 32 ≡ length r ⌝ }
+{
+    [0u16; 32]
+}
+
+// Room for another plane of it.
 fn room() -> [u8; 32]
     ensures { λ r. ⌜ 32 ≡ length r ⌝ }
 {
@@ -236,18 +244,18 @@ fn room() -> [u8; 32]
 fn trial_strip(
     right: bool,
     table: &[u16; 256],
-    squares: &[u16; 256],
+    squares: &[u32; 1024],
     share: u8,
     tolerance: u8,
-    texture: &[u8],
+    texture: &[u16],
     depths: &[u8],
     candidate: &[u8],
     column: usize,
-    samples: &[u8],
+    samples: &[u16],
     fronts: &[u8],
     marks: &[u8],
-    combined: &[u8],
-    reference: &[u8],
+    combined: &[u16],
+    reference: &[u16],
     from: Pair,
     start: usize,
     n: usize,
@@ -259,7 +267,7 @@ fn trial_strip(
     ensures { λ r. ⌜ Stretch (around right share tolerance (now (samples .entry)) (now (fronts .entry)) (now (marks .entry)) (now (combined .entry)) (now (reference .entry)))
         (lineWith right (now (table .entry)) (now (texture .entry)) (now (depths .entry)) column (now (candidate .entry))) start (start + n) from (r .pair) (r .old) (r .new) ⌝ }
 {
-    let mut s = room();
+    let mut s = sample_room();
     let mut f = room();
     let mut m = room();
     trial_into(
@@ -297,18 +305,18 @@ fn strip_start(start: usize, top: usize) -> usize
 fn trial_strips(
     right: bool,
     table: &[u16; 256],
-    squares: &[u16; 256],
+    squares: &[u32; 1024],
     share: u8,
     tolerance: u8,
-    texture: &[u8],
+    texture: &[u16],
     depths: &[u8],
     candidate: &[u8],
     column: usize,
-    samples: &[u8],
+    samples: &[u16],
     fronts: &[u8],
     marks: &[u8],
-    combined: &[u8],
-    reference: &[u8],
+    combined: &[u16],
+    reference: &[u16],
     from: Pair,
     start: usize,
     stop: usize,
@@ -357,19 +365,19 @@ fn trial_strips(
 fn trial_row(
     right: bool,
     table: &[u16; 256],
-    squares: &[u16; 256],
+    squares: &[u32; 1024],
     share: u8,
     tolerance: u8,
     first: usize,
-    texture: &[u8],
+    texture: &[u16],
     depths: &[u8],
     limits: &[i16],
     candidate: &[u8],
-    samples: &[u8],
+    samples: &[u16],
     fronts: &[u8],
     marks: &[u8],
-    combined: &[u8],
-    reference: &[u8],
+    combined: &[u16],
+    reference: &[u16],
 ) -> Sums
     requires { ⌜ (tableOk (now table) ≡ true) × ((Squares (now squares)) × (share ≤ 64)) ⌝ }
     requires { ⌜ (length (now depths) ≡ length (now reference)) × ((length (now texture) ≡ length (now reference)) × (length (now limits) ≡ length (now reference))) ⌝ }
@@ -414,21 +422,21 @@ fn trial_row(
 fn trial_beside(
     right: bool,
     table: &[u16; 256],
-    squares: &[u16; 256],
+    squares: &[u32; 1024],
     share: u8,
     tolerance: u8,
     w: usize,
     y: usize,
     first: usize,
-    texture: &[u8],
+    texture: &[u16],
     depths: &[u8],
     limits: &[i16],
     candidate: &[u8],
-    samples: &[u8],
+    samples: &[u16],
     fronts: &[u8],
     marks: &[u8],
-    combined: &[u8],
-    reference: &[u8],
+    combined: &[u16],
+    reference: &[u16],
 ) -> Sums
     requires { ⌜ (tableOk (now table) ≡ true) × ((Squares (now squares)) × (share ≤ 64)) ⌝ }
     requires { ⌜ AroundRowIn w y (around right share tolerance (now samples) (now fronts) (now marks) (now combined) (now reference)) ⌝ }
@@ -465,7 +473,7 @@ fn trial_beside(
 fn trial_at(
     right: bool,
     table: &[u16; 256],
-    squares: &[u16; 256],
+    squares: &[u32; 1024],
     share: u8,
     tolerance: u8,
     w: usize,
@@ -473,15 +481,15 @@ fn trial_at(
     width: usize,
     i: usize,
     first: usize,
-    texture: &[u8],
+    texture: &[u16],
     depths: &[u8],
     limits: &[i16],
     candidate: &[u8],
-    samples: &[u8],
+    samples: &[u16],
     fronts: &[u8],
     marks: &[u8],
-    combined: &[u8],
-    reference: &[u8],
+    combined: &[u16],
+    reference: &[u16],
 ) -> Sums
     requires { ⌜ (tableOk (now table) ≡ true) × ((Squares (now squares)) × (share ≤ 64)) ⌝ }
     requires { ⌜ OwnRowIn w y (own (now table) (now texture) (now depths) (now limits)) ⌝ }
@@ -528,15 +536,15 @@ pub fn trial_block(
     row: usize,
     width: usize,
     height: usize,
-    texture: &[u8],
+    texture: &[u16],
     depths: &[u8],
     limits: &[i16],
     candidate: &[u8],
-    samples: &[u8],
+    samples: &[u16],
     fronts: &[u8],
     marks: &[u8],
-    combined: &[u8],
-    reference: &[u8],
+    combined: &[u16],
+    reference: &[u16],
 ) -> Sums
     requires { ⌜ (tableOk (now table) ≡ true) × (share ≤ 64) ⌝ }
     requires { ⌜ Sized w h (around right share tolerance (now samples) (now fronts) (now marks) (now combined) (now reference)) (own (now table) (now texture) (now depths) (now limits)) ⌝ }

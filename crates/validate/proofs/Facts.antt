@@ -11,7 +11,7 @@ use lib.Dec.{leb}
 use lib.Bits.{bitOr, or-add-and, or-lt, and-le-l, and-le-r}
 use borrow.Author.Tests.{le-leb, leb-true, eq-eqb, eqb-true}
 use Rattle.model.specs.Marks.{markBytes}
-use Rattle.model.specs.Refusals.{tableOk}
+use Rattle.model.specs.Refusals.{upTo, tableOk}
 use Rattle.model.proofs.Choice.{bool-cases, not-true, and-true, and-left, and-right}
 use Rattle.validate.specs.declared.ViewLengths.{ViewLengths}
 use Rattle.validate.specs.declared.Lengths.{Lengths}
@@ -83,6 +83,11 @@ planes-facts w h l e =
       combined = eqb-true (l .combined) (w * h) (search (and-left, and-right));
     }
 
+-- three tests in another order
+and-moved : (a b c : Bool) → ((a && b) && c) ≡ (a && (b && c))
+and-moved false b c = refl
+and-moved true b c = refl
+
 -- ten bits hold two numbers joined exactly when they hold both
 or-ten-bits : (m x : ℕ) → leb (bitOr m x) 1023 ≡ (leb m 1023 && leb x 1023)
 or-ten-bits m x =
@@ -98,6 +103,16 @@ or-ten-bits m x =
     let l = leb-true x 1023 (and-right (leb m 1023) (leb x 1023) t) in
     le-leb (bitOr m x) 1023 (omega (arith, or-lt 10 m x (omega arith) (omega arith))))
 
+-- the entry at i joins its bits to those before it, and past the last entry the joined bits decide
+pub picture-next : (l : List ℕ) (most i : ℕ) → i < length l → (leb (bitOr most (getD l i 0)) 1023 && upTo 1023 (drop (i + 1) l)) ≡ (leb most 1023 && upTo 1023 (drop i l))
+unfolding upTo
+picture-next l most i h =
+    rw (add-one i, drop-cons l i 0 h, or-ten-bits most (getD l i 0)) (and-moved (leb most 1023) (leb (getD l i 0) 1023) (upTo 1023 (drop (suc i) l)))
+
+pub picture-end : (l : List ℕ) (most i : ℕ) → length l ≤ i → leb most 1023 ≡ (leb most 1023 && upTo 1023 (drop i l))
+unfolding upTo
+picture-end l most i h = rw (drop-of-length-le l h) (bool-cases (leb most 1023) (λ e. rw e) (λ e. rw e))
+
 -- five tests in another order
 and-turn : (a x y l r : Bool) → ((a && (x && y)) && (l && r)) ≡ (a && ((x && l) && (y && r)))
 and-turn false x y l r = refl
@@ -108,12 +123,12 @@ and-turn true true false false r = refl
 
 -- the entries at i join the bits of those before them
 pub tables-next : (l r : List ℕ) (most i : ℕ) → i < length l → i < length r → (leb (bitOr most (bitOr (getD l i 0) (getD r i 0))) 1023 && (tableOk (drop (i + 1) l) && tableOk (drop (i + 1) r))) ≡ (leb most 1023 && (tableOk (drop i l) && tableOk (drop i r)))
-unfolding tableOk
+unfolding upTo
 tables-next l r most i h k =
     rw (add-one i, drop-cons l i 0 h, drop-cons r i 0 k, or-ten-bits most (bitOr (getD l i 0) (getD r i 0)), or-ten-bits (getD l i 0) (getD r i 0))
     (and-turn (leb most 1023) (leb (getD l i 0) 1023) (leb (getD r i 0) 1023) (tableOk (drop (suc i) l)) (tableOk (drop (suc i) r)))
 
 -- past the last entries the joined bits decide
 pub tables-end : (l r : List ℕ) (most i : ℕ) → length l ≤ i → length r ≤ i → leb most 1023 ≡ (leb most 1023 && (tableOk (drop i l) && tableOk (drop i r)))
-unfolding tableOk
+unfolding upTo
 tables-end l r most i h k = rw (drop-of-length-le l h, drop-of-length-le r k) (bool-cases (leb most 1023) (λ e. rw e) (λ e. rw e))

@@ -1,10 +1,10 @@
-// The tests that turn a call down, in the order of its list. Of a plane they look at its length alone.
+// The tests that turn a call down, in the order of its list. Of a plane they look at its length alone; the entries of a picture are a test apart, which only OPEN makes.
 use model::Block;
 use model::Refusal;
 ghost use mathlib.Core.Path.{_≡_};
 ghost use mathlib.Core.Bool.{_&&_};
 ghost use Prim.Native.Nat.{_≤_};
-ghost use Rattle.model.specs.Refusals.{numberOf, sideOk, tableOk, blockOk, ownThen};
+ghost use Rattle.model.specs.Refusals.{numberOf, sideOk, tableOk, pictureOk, blockOk, ownThen};
 ghost use Rattle.validate.specs.Numbers.{viewFits, planesFit, commonNumber, sides};
 
 // The lengths of the planes of one view.
@@ -49,6 +49,19 @@ pub fn tables_ok(left: &[u16; 256], right: &[u16; 256]) -> bool
         i += 1;
     }
     most <= 1023
+}
+
+// No entry of a picture is above 1,023, which is ten bits: the bits of all entries are joined, as for the tables.
+pub fn picture_ok(picture: &[u16]) -> bool
+    ensures { λ r. ⌜ r ≡ pictureOk (now (picture .entry)) ⌝ }
+{
+    let mut joined = 0u16;
+    let mut i = 0;
+    while i < picture.len() {
+        joined = joined | picture[i];
+        i += 1;
+    }
+    joined <= 1023
 }
 
 // Every plane of a view has its exact length: n entries, and m bytes of marks.

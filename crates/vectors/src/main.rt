@@ -1,4 +1,5 @@
-// The session of document 01, its cases without a star, every refusal alone and before the next, and HOLES of given marks: each line says what the entries answered.
+// The session of document 01, its cases without a star, every refusal alone and before the next, samples at and above the greatest, and HOLES of
+// given marks: each line says what the entries answered.
 use model::Block;
 use model::Count;
 use model::Edited;
@@ -9,7 +10,8 @@ ghost use mathlib.Core.Path.{_≡_};
 ghost use lib.ListN.{length};
 
 // One turn of a session: GET, then SET where `write` says so, of a block of `view` and a candidate of `count` entries of `depth`.
-// The change is the one expected. Where `hand` says so, the total is first set to `total` by hand; where `spoil` does, a held sample is changed after SET.
+// The change is the one expected. Where `hand` says so, the total is first set to `total` by hand; where `spoil` does, a held and a combined sample
+// become `sample` after SET.
 struct Turn {
     view: u32,
     block: Block,
@@ -20,6 +22,7 @@ struct Turn {
     hand: bool,
     total: u64,
     spoil: bool,
+    sample: u16,
 }
 
 // Prints a text.
@@ -44,6 +47,16 @@ fn say_change(word: &[u8], refusal: Refusal, change: i64, expected: i64) {
         say(b" ok");
     } else {
         say(b" wrong");
+    }
+}
+
+// Prints the samples of a row.
+fn say_samples(word: &[u8], entries: &[u16]) {
+    say(word);
+    let mut i = 0;
+    while i < entries.len() {
+        say_number(b" ", entries[i] as u64);
+        i += 1;
     }
 }
 
@@ -107,6 +120,7 @@ fn request(view: u32, block: Block, depth: u8, change: i64, write: bool) -> Turn
         hand: false,
         total: 0,
         spoil: false,
+        sample: 0,
     }
 }
 
@@ -143,10 +157,11 @@ fn by_hand(given: Turn, total: u64) -> Turn {
     next
 }
 
-// The same turn with a held sample changed by hand at its end.
-fn spoiled(given: Turn) -> Turn {
+// The same turn with a held and a combined sample changed by hand at its end.
+fn spoiled(given: Turn, sample: u16) -> Turn {
     let mut next = given;
     next.spoil = true;
+    next.sample = sample;
     next
 }
 
@@ -165,9 +180,19 @@ fn session_turn(i: usize) -> Turn {
         9 => writes(0, 2, 0, -100),
         10 => writes(1, 1, 5, 0),
         11 => writes(1, 1, 0, 0),
-        12 => by_hand(tries(0, 0, 0), 260100),
-        13 => by_hand(writes(0, 0, 0, 0), 260101),
-        _ => spoiled(by_hand(tries(0, 0, 0), 1)),
+        12 => by_hand(tries(0, 0, 0), 4186116),
+        13 => by_hand(writes(0, 0, 0, 0), 4186117),
+        _ => spoiled(by_hand(tries(0, 0, 0), 1), 99),
+    }
+}
+
+// The turns over samples of 1,023, from 50 on: a held and a combined one are raised, and then written over, view by view.
+fn high_turn(i: usize) -> Turn {
+    match i {
+        50 => spoiled(tries(2, 4, -718945), 1024),
+        51 => writes(1, 1, 4, -1086698),
+        52 => writes(0, 2, 4, -544383),
+        _ => session_turn(i),
     }
 }
 
@@ -183,7 +208,7 @@ fn edge_turn(i: usize) -> Turn {
         45 => writes(1, 0, 11, 500),
         46 => writes(1, 2, 3, -900),
         47 => writes(1, 2, 0, 900),
-        _ => session_turn(i),
+        _ => high_turn(i),
     }
 }
 
@@ -210,36 +235,37 @@ fn turn_of(i: usize) -> Turn {
 }
 
 // Changes an entry of a plane by hand.
-fn spoil(yes: bool, plane: &mut [u8]) {
+fn spoil(yes: bool, sample: u16, plane: &mut [u16]) {
     if !yes {
         return;
     }
     if 1 < plane.len() {
-        plane[1] = 99;
+        plane[1] = sample;
     }
 }
 
 // OPEN, with what it answered.
 fn opened(
     given: Settings,
-    texture: &[u8],
-    reference: &[u8],
+    left: &[u16],
+    right: &[u16],
+    reference: &[u16],
     leftDepths: &[u8],
     rightDepths: &[u8],
-    leftSamples: &mut [u8],
+    leftSamples: &mut [u16],
     leftFronts: &mut [u8],
     leftLimits: &mut [i16],
     leftMarks: &mut [u8],
-    rightSamples: &mut [u8],
+    rightSamples: &mut [u16],
     rightFronts: &mut [u8],
     rightLimits: &mut [i16],
     rightMarks: &mut [u8],
-    combined: &mut [u8],
+    combined: &mut [u16],
 ) -> Settings {
     let answer = open::open(
         given,
-        texture,
-        texture,
+        left,
+        right,
         reference,
         leftDepths,
         rightDepths,
@@ -265,26 +291,27 @@ fn opened(
 fn tried(
     given: Settings,
     turn: Turn,
-    texture: &[u8],
-    reference: &[u8],
+    left: &[u16],
+    right: &[u16],
+    reference: &[u16],
     leftDepths: &[u8],
     rightDepths: &[u8],
-    leftSamples: &[u8],
+    leftSamples: &[u16],
     leftFronts: &[u8],
     leftLimits: &[i16],
     leftMarks: &[u8],
-    rightSamples: &[u8],
+    rightSamples: &[u16],
     rightFronts: &[u8],
     rightLimits: &[i16],
     rightMarks: &[u8],
-    combined: &[u8],
+    combined: &[u16],
     candidate: &[u8],
 ) {
     let block = turn.block;
     let answer = get::get(
         given,
-        texture,
-        texture,
+        left,
+        right,
         reference,
         leftDepths,
         rightDepths,
@@ -320,19 +347,20 @@ fn say_edited(answer: Edited, expected: i64) -> Settings {
 fn written(
     given: Settings,
     turn: Turn,
-    texture: &[u8],
-    reference: &[u8],
+    left: &[u16],
+    right: &[u16],
+    reference: &[u16],
     leftDepths: &mut [u8],
     rightDepths: &mut [u8],
-    leftSamples: &mut [u8],
+    leftSamples: &mut [u16],
     leftFronts: &mut [u8],
     leftLimits: &mut [i16],
     leftMarks: &mut [u8],
-    rightSamples: &mut [u8],
+    rightSamples: &mut [u16],
     rightFronts: &mut [u8],
     rightLimits: &mut [i16],
     rightMarks: &mut [u8],
-    combined: &mut [u8],
+    combined: &mut [u16],
     candidate: &[u8],
 ) -> Settings {
     if !turn.write {
@@ -341,8 +369,8 @@ fn written(
     let block = turn.block;
     let answer = set::set(
         given,
-        texture,
-        texture,
+        left,
+        right,
         reference,
         leftDepths,
         rightDepths,
@@ -365,24 +393,25 @@ fn written(
 // CHECK, with what it answered.
 fn checked(
     given: Settings,
-    texture: &[u8],
-    reference: &[u8],
+    left: &[u16],
+    right: &[u16],
+    reference: &[u16],
     leftDepths: &[u8],
     rightDepths: &[u8],
-    leftSamples: &[u8],
+    leftSamples: &[u16],
     leftFronts: &[u8],
     leftLimits: &[i16],
     leftMarks: &[u8],
-    rightSamples: &[u8],
+    rightSamples: &[u16],
     rightFronts: &[u8],
     rightLimits: &[i16],
     rightMarks: &[u8],
-    combined: &[u8],
+    combined: &[u16],
 ) {
     let report = checks::check(
         given,
-        texture,
-        texture,
+        left,
+        right,
         reference,
         leftDepths,
         rightDepths,
@@ -452,25 +481,27 @@ fn passed(given: Settings, turn: Turn) -> Settings {
 fn edited(
     given: Settings,
     turn: Turn,
-    texture: &[u8],
-    reference: &[u8],
+    left: &[u16],
+    right: &[u16],
+    reference: &[u16],
     leftDepths: &mut [u8],
     rightDepths: &mut [u8],
-    leftSamples: &mut [u8],
+    leftSamples: &mut [u16],
     leftFronts: &mut [u8],
     leftLimits: &mut [i16],
     leftMarks: &mut [u8],
-    rightSamples: &mut [u8],
+    rightSamples: &mut [u16],
     rightFronts: &mut [u8],
     rightLimits: &mut [i16],
     rightMarks: &mut [u8],
-    combined: &mut [u8],
+    combined: &mut [u16],
     candidate: &[u8],
 ) -> Settings {
     tried(
         given,
         turn,
-        texture,
+        left,
+        right,
         reference,
         leftDepths,
         rightDepths,
@@ -488,7 +519,8 @@ fn edited(
     written(
         given,
         turn,
-        texture,
+        left,
+        right,
         reference,
         leftDepths,
         rightDepths,
@@ -516,19 +548,20 @@ fn entries(depth: u8) -> [u8; 4]
 fn took(
     given: Settings,
     turn: Turn,
-    texture: &[u8],
-    reference: &[u8],
+    left: &[u16],
+    right: &[u16],
+    reference: &[u16],
     leftDepths: &mut [u8],
     rightDepths: &mut [u8],
-    leftSamples: &mut [u8],
+    leftSamples: &mut [u16],
     leftFronts: &mut [u8],
     leftLimits: &mut [i16],
     leftMarks: &mut [u8],
-    rightSamples: &mut [u8],
+    rightSamples: &mut [u16],
     rightFronts: &mut [u8],
     rightLimits: &mut [i16],
     rightMarks: &mut [u8],
-    combined: &mut [u8],
+    combined: &mut [u16],
 ) -> Settings {
     let room = entries(turn.depth);
     let count = turn.count;
@@ -538,7 +571,8 @@ fn took(
     edited(
         given,
         turn,
-        texture,
+        left,
+        right,
         reference,
         leftDepths,
         rightDepths,
@@ -559,25 +593,27 @@ fn took(
 fn moved(
     given: Settings,
     turn: Turn,
-    texture: &[u8],
-    reference: &[u8],
+    left: &[u16],
+    right: &[u16],
+    reference: &[u16],
     leftDepths: &mut [u8],
     rightDepths: &mut [u8],
-    leftSamples: &mut [u8],
+    leftSamples: &mut [u16],
     leftFronts: &mut [u8],
     leftLimits: &mut [i16],
     leftMarks: &mut [u8],
-    rightSamples: &mut [u8],
+    rightSamples: &mut [u16],
     rightFronts: &mut [u8],
     rightLimits: &mut [i16],
     rightMarks: &mut [u8],
-    combined: &mut [u8],
+    combined: &mut [u16],
 ) -> Settings {
     say_turn(turn);
     let next = took(
         passed(given, turn),
         turn,
-        texture,
+        left,
+        right,
         reference,
         leftDepths,
         rightDepths,
@@ -591,7 +627,8 @@ fn moved(
         rightMarks,
         combined,
     );
-    spoil(turn.spoil, leftSamples);
+    spoil(turn.spoil, turn.sample, leftSamples);
+    spoil(turn.spoil, turn.sample, combined);
     next
 }
 
@@ -599,23 +636,25 @@ fn moved(
 fn reported(
     given: Settings,
     view: u32,
-    texture: &[u8],
-    reference: &[u8],
+    left: &[u16],
+    right: &[u16],
+    reference: &[u16],
     leftDepths: &[u8],
     rightDepths: &[u8],
-    leftSamples: &[u8],
+    leftSamples: &[u16],
     leftFronts: &[u8],
     leftLimits: &[i16],
     leftMarks: &[u8],
-    rightSamples: &[u8],
+    rightSamples: &[u16],
     rightFronts: &[u8],
     rightLimits: &[i16],
     rightMarks: &[u8],
-    combined: &[u8],
+    combined: &[u16],
 ) {
     checked(
         given,
-        texture,
+        left,
+        right,
         reference,
         leftDepths,
         rightDepths,
@@ -637,24 +676,26 @@ fn reported(
 fn played(
     given: Settings,
     turn: Turn,
-    texture: &[u8],
-    reference: &[u8],
+    left: &[u16],
+    right: &[u16],
+    reference: &[u16],
     leftDepths: &mut [u8],
     rightDepths: &mut [u8],
-    leftSamples: &mut [u8],
+    leftSamples: &mut [u16],
     leftFronts: &mut [u8],
     leftLimits: &mut [i16],
     leftMarks: &mut [u8],
-    rightSamples: &mut [u8],
+    rightSamples: &mut [u16],
     rightFronts: &mut [u8],
     rightLimits: &mut [i16],
     rightMarks: &mut [u8],
-    combined: &mut [u8],
+    combined: &mut [u16],
 ) -> Settings {
     let next = moved(
         given,
         turn,
-        texture,
+        left,
+        right,
         reference,
         leftDepths,
         rightDepths,
@@ -671,7 +712,8 @@ fn played(
     reported(
         next,
         turn.view,
-        texture,
+        left,
+        right,
         reference,
         leftDepths,
         rightDepths,
@@ -688,29 +730,34 @@ fn played(
     next
 }
 
-// OPEN, and the turns from one on up to another.
+// OPEN over its pictures, and the turns from one on up to another over theirs.
 fn play(
     given: Settings,
     start: usize,
     end: usize,
-    texture: &[u8],
-    reference: &[u8],
+    firstLeft: &[u16],
+    firstRight: &[u16],
+    firstReference: &[u16],
+    left: &[u16],
+    right: &[u16],
+    reference: &[u16],
     leftDepths: &mut [u8],
     rightDepths: &mut [u8],
-    leftSamples: &mut [u8],
+    leftSamples: &mut [u16],
     leftFronts: &mut [u8],
     leftLimits: &mut [i16],
     leftMarks: &mut [u8],
-    rightSamples: &mut [u8],
+    rightSamples: &mut [u16],
     rightFronts: &mut [u8],
     rightLimits: &mut [i16],
     rightMarks: &mut [u8],
-    combined: &mut [u8],
+    combined: &mut [u16],
 ) {
     let mut now = opened(
         given,
-        texture,
-        reference,
+        firstLeft,
+        firstRight,
+        firstReference,
         leftDepths,
         rightDepths,
         leftSamples,
@@ -729,7 +776,8 @@ fn play(
         now = played(
             now,
             turn,
-            texture,
+            left,
+            right,
             reference,
             leftDepths,
             rightDepths,
@@ -747,27 +795,41 @@ fn play(
     }
 }
 
-// A session of planes of four entries, with both textures and the reference of document 01 and depths of 0.
-fn small(title: &[u8], given: Settings, start: usize, end: usize) {
-    let texture = [10u8, 20, 30, 40];
+// A session of planes of four entries with depths of 0: OPEN over its pictures, and the turns over theirs.
+fn raised(
+    title: &[u8],
+    given: Settings,
+    start: usize,
+    end: usize,
+    firstLeft: &[u16],
+    firstRight: &[u16],
+    firstReference: &[u16],
+    left: &[u16],
+    right: &[u16],
+    reference: &[u16],
+) {
     let mut leftDepths = [0u8; 4];
     let mut rightDepths = [0u8; 4];
-    let mut leftSamples = [0u8; 4];
+    let mut leftSamples = [0u16; 4];
     let mut leftFronts = [0u8; 4];
     let mut leftLimits = [0i16; 4];
     let mut leftMarks = [0u8; 1];
-    let mut rightSamples = [0u8; 4];
+    let mut rightSamples = [0u16; 4];
     let mut rightFronts = [0u8; 4];
     let mut rightLimits = [0i16; 4];
     let mut rightMarks = [0u8; 1];
-    let mut combined = [0u8; 4];
+    let mut combined = [0u16; 4];
     say(title);
     play(
         given,
         start,
         end,
-        &texture,
-        &texture,
+        firstLeft,
+        firstRight,
+        firstReference,
+        left,
+        right,
+        reference,
         &mut leftDepths,
         &mut rightDepths,
         &mut leftSamples,
@@ -780,6 +842,43 @@ fn small(title: &[u8], given: Settings, start: usize, end: usize) {
         &mut rightMarks,
         &mut combined,
     );
+}
+
+// The same over one set of pictures.
+fn pictured(
+    title: &[u8],
+    given: Settings,
+    start: usize,
+    end: usize,
+    left: &[u16],
+    right: &[u16],
+    reference: &[u16],
+) {
+    raised(
+        title,
+        given,
+        start,
+        end,
+        left,
+        right,
+        reference,
+        left,
+        right,
+        reference,
+    );
+}
+
+// The same with both textures and the reference of document 01.
+fn small(title: &[u8], given: Settings, start: usize, end: usize) {
+    let texture = [10u16, 20, 30, 40];
+    pictured(title, given, start, end, &texture, &texture, &texture);
+}
+
+// A plane of 4,096 samples.
+fn samples(entry: u16) -> [u16; 4096]
+    ensures { λ r. ⌜ 4096 ≡ length r ⌝ }
+{
+    [entry; 4096]
 }
 
 // A plane of 4,096 entries.
@@ -803,26 +902,30 @@ fn marks() -> [u8; 512]
     [0; 512]
 }
 
-// A session of one row of 4,096 columns, with both textures 255 and the reference 0.
+// A session of one row of 4,096 columns, with both textures 1,023 and the reference 0.
 fn wide(title: &[u8], given: Settings, start: usize, end: usize) {
-    let texture = plane(255);
-    let reference = plane(0);
+    let texture = samples(1023);
+    let reference = samples(0);
     let mut leftDepths = plane(0);
     let mut rightDepths = plane(0);
-    let mut leftSamples = plane(0);
+    let mut leftSamples = samples(0);
     let mut leftFronts = plane(0);
     let mut leftLimits = limits();
     let mut leftMarks = marks();
-    let mut rightSamples = plane(0);
+    let mut rightSamples = samples(0);
     let mut rightFronts = plane(0);
     let mut rightLimits = limits();
     let mut rightMarks = marks();
-    let mut combined = plane(0);
+    let mut combined = samples(0);
     say(title);
     play(
         given,
         start,
         end,
+        &texture,
+        &texture,
+        &reference,
+        &texture,
         &texture,
         &reference,
         &mut leftDepths,
@@ -839,26 +942,30 @@ fn wide(title: &[u8], given: Settings, start: usize, end: usize) {
     );
 }
 
-// A session of 4,096 rows of one column, with both textures 255 and the reference 0.
+// A session of 4,096 rows of one column, with both textures 1,023 and the reference 0.
 fn tall(title: &[u8], given: Settings, start: usize, end: usize) {
-    let texture = plane(255);
-    let reference = plane(0);
+    let texture = samples(1023);
+    let reference = samples(0);
     let mut leftDepths = plane(0);
     let mut rightDepths = plane(0);
-    let mut leftSamples = plane(0);
+    let mut leftSamples = samples(0);
     let mut leftFronts = plane(0);
     let mut leftLimits = limits();
     let mut leftMarks = plane(0);
-    let mut rightSamples = plane(0);
+    let mut rightSamples = samples(0);
     let mut rightFronts = plane(0);
     let mut rightLimits = limits();
     let mut rightMarks = plane(0);
-    let mut combined = plane(0);
+    let mut combined = samples(0);
     say(title);
     play(
         given,
         start,
         end,
+        &texture,
+        &texture,
+        &reference,
+        &texture,
         &texture,
         &reference,
         &mut leftDepths,
@@ -879,9 +986,9 @@ fn tall(title: &[u8], given: Settings, start: usize, end: usize) {
 fn drawn(
     given: Settings,
     view: u32,
-    texture: &[u8],
+    texture: &[u16],
     depths: &[u8],
-    samples: &mut [u8],
+    samples: &mut [u16],
     marks: &mut [u8],
     fronts: &mut [u8],
 ) {
@@ -890,32 +997,37 @@ fn drawn(
 }
 
 // RENDER of a row of four, with what it drew.
-fn strip(title: &[u8], given: Settings, view: u32, depths: &[u8]) {
-    let texture = [10u8, 20, 30, 40];
-    let mut samples = [0u8; 4];
+fn textured(title: &[u8], given: Settings, view: u32, texture: &[u16], depths: &[u8]) {
+    let mut samples = [0u16; 4];
     let mut marks = [0u8; 1];
     let mut fronts = [0u8; 4];
     say(title);
     drawn(
         given,
         view,
-        &texture,
+        texture,
         depths,
         &mut samples,
         &mut marks,
         &mut fronts,
     );
-    say_entries(b" samples", &samples);
+    say_samples(b" samples", &samples);
     say_entries(b" marks", &marks);
     say_entries(b" fronts", &fronts);
     say(b"\n");
 }
 
+// RENDER of a row of four of document 01.
+fn strip(title: &[u8], given: Settings, view: u32, depths: &[u8]) {
+    let texture = [10u16, 20, 30, 40];
+    textured(title, given, view, &texture, depths);
+}
+
 // RENDER of a row of 4,096.
 fn wide_strip(title: &[u8], given: Settings, view: u32) {
-    let texture = plane(255);
+    let texture = samples(1023);
     let depths = plane(0);
-    let mut samples = plane(0);
+    let mut drawing = samples(0);
     let mut bits = marks();
     let mut fronts = plane(0);
     say(title);
@@ -924,7 +1036,7 @@ fn wide_strip(title: &[u8], given: Settings, view: u32) {
         view,
         &texture,
         &depths,
-        &mut samples,
+        &mut drawing,
         &mut bits,
         &mut fronts,
     );
@@ -941,6 +1053,59 @@ fn run_taken() {
     small(b"right entry 1023", settings(4, 1, 255, 1023, 0), 22, 23);
     small(b"near edge", settings(4, 1, 255, 255, 0), 40, 44);
     small(b"near edge, right", settings(4, 1, 255, 255, 64), 44, 48);
+}
+
+// Samples of 1,023: OPEN takes them and no higher one. The other calls read a higher one as 1,023, and CHECK compares held samples as they are.
+fn run_samples() {
+    let plain = [10u16, 20, 30, 40];
+    let bright = [10u16, 1023, 30, 40];
+    let target = [10u16, 20, 1023, 40];
+    let given = settings(4, 1, 255, 255, 32);
+    pictured(b"samples 1023", given, 51, 53, &bright, &bright, &target);
+    let left = [10u16, 65535, 30, 40];
+    let right = [10u16, 1024, 30, 40];
+    let reference = [10u16, 20, 1024, 40];
+    raised(
+        b"samples raised after open",
+        given,
+        51,
+        53,
+        &bright,
+        &bright,
+        &target,
+        &left,
+        &right,
+        &reference,
+    );
+    pictured(
+        b"held samples raised",
+        given,
+        50,
+        53,
+        &bright,
+        &bright,
+        &target,
+    );
+    pictured(b"left sample 1024", given, 0, 0, &right, &plain, &plain);
+    pictured(b"right sample 1024", given, 0, 0, &plain, &right, &plain);
+    pictured(
+        b"reference sample 1024",
+        given,
+        0,
+        0,
+        &plain,
+        &plain,
+        &reference,
+    );
+    pictured(
+        b"4 before 21",
+        settings(4, 1, 255, 255, 65),
+        33,
+        34,
+        &right,
+        &plain,
+        &plain,
+    );
 }
 
 // What every entry of a session refuses.
@@ -1021,6 +1186,17 @@ fn run_strips() {
     strip(b"row view 2", settings(4, 1, 255, 255, 0), 2, &near);
 }
 
+// RENDER reads a sample above 1,023 as 1,023.
+fn run_strip_samples() {
+    let texture = [10u16, 1024, 30, 65535];
+    let far = [0u8; 4];
+    let near = [2u8; 4];
+    let given = settings(4, 1, 255, 255, 0);
+    textured(b"row samples 1024", given, 0, &texture, &far);
+    textured(b"row samples 1024, k 2", given, 0, &texture, &near);
+    textured(b"row samples 1024, k 2, right", given, 1, &texture, &near);
+}
+
 // RENDER of a row with two conditions at once.
 fn run_strip_order() {
     let near = [2u8, 2, 2, 2];
@@ -1071,9 +1247,11 @@ fn run_holes() {
 
 fn main() {
     run_taken();
+    run_samples();
     run_refused();
     run_order();
     run_strips();
+    run_strip_samples();
     run_strip_order();
     run_holes();
 }

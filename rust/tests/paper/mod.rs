@@ -6,8 +6,11 @@
 
 use luphwezane::{Block, Pictures, Planes, Report, Settings};
 
-/// The greatest sample.
-pub const WHITE: i32 = 255;
+/// The greatest sample (card 12).
+pub const WHITE: u16 = 1023;
+
+/// The greatest squared error.
+pub const WORST: u64 = 1_046_529;
 
 /// The H.265 luma filters of k = 1, 2 and 3, over columns c − 3 to c + 4 (card 2).
 #[rustfmt::skip]
@@ -17,10 +20,19 @@ pub const TAPS: [[i32; 8]; 3] = [
     [ 0, 1,  -5, 17, 58, -10, 4, -1],
 ];
 
+/// Calls read a higher entry of a texture or reference as 1,023, and GET and SET a held or combined sample so too (card 12).
+pub fn read(entry: u16) -> u16 {
+    if entry > WHITE {
+        WHITE
+    } else {
+        entry
+    }
+}
+
 /// What a view shows at a position.
 #[derive(Clone, Copy, Debug, PartialEq, Eq)]
 pub struct Pixel {
-    pub sample: u8,
+    pub sample: u16,
     pub mark: u8,
     pub front: u8,
 }
@@ -35,13 +47,18 @@ pub struct DrawnRow {
 /// "One row of the left view".
 pub struct LeftRow<'a> {
     pub table: &'a [u16; 256],
-    pub texture: &'a [u8],
+    pub texture: &'a [u16],
     pub depths: &'a [u8],
 }
 
 impl LeftRow<'_> {
     pub fn w(&self) -> usize {
         self.depths.len()
+    }
+
+    /// The sample of column c.
+    pub fn sample(&self, c: usize) -> u16 {
+        read(self.texture[c])
     }
 
     /// Column c with depth d has the place 4 × c − table[d].
@@ -79,10 +96,10 @@ impl LeftRow<'_> {
         }
     }
 
-    /// The filter of k over columns c − 3 to c + 4, ends repeated, before it is held to 0 to 255.
+    /// The filter of k over columns c − 3 to c + 4, ends repeated, before it is held to 0 to 1,023.
     pub fn filtered(&self, c: usize, k: usize) -> i32 {
         let last = self.w() as i32 - 1;
-        let sample = |column: i32| i32::from(self.texture[column.clamp(0, last) as usize]);
+        let sample = |column: i32| i32::from(self.sample(column.clamp(0, last) as usize));
         let sum: i32 = (-3..=4).zip(TAPS[k - 1]).map(|(i, tap)| tap * sample(c as i32 + i)).sum();
         (sum + 32).div_euclid(64)
     }
@@ -90,7 +107,7 @@ impl LeftRow<'_> {
     pub fn pixel(&self, p: usize) -> Pixel {
         let c = self.owner(p);
         let t = 4 * p as i32 - self.place(c);
-        let plain = |c: usize, mark: u8| Pixel { sample: self.texture[c], mark, front: self.depths[c] };
+        let plain = |c: usize, mark: u8| Pixel { sample: self.sample(c), mark, front: self.depths[c] };
         if c == self.w() - 1 {
             return plain(c, u8::from(t > 1));
         }
@@ -102,9 +119,9 @@ impl LeftRow<'_> {
             panic!("a hidden pair owns nothing");
         } else if gap <= 8 {
             let sample = match step(t, gap) {
-                0 => self.texture[c],
-                4 => self.texture[c + 1],
-                k => self.filtered(c, k).clamp(0, WHITE) as u8,
+                0 => self.sample(c),
+                4 => self.sample(c + 1),
+                k => self.filtered(c, k).clamp(0, i32::from(WHITE)) as u16,
             };
             Pixel { sample, mark: 0, front: self.depths[c] }
         } else if t <= 1 {
@@ -132,7 +149,7 @@ pub fn reversed<T: Copy>(row: &[T]) -> Vec<T> {
 
 /// One row of view 0 or 1. The right view is the same rule over the row read backwards, its results written back in
 /// reverse.
-pub fn drawn_row(table: &[u16; 256], view: usize, texture: &[u8], depths: &[u8]) -> DrawnRow {
+pub fn drawn_row(table: &[u16; 256], view: usize, texture: &[u16], depths: &[u8]) -> DrawnRow {
     if view == 0 {
         return LeftRow { table, texture, depths }.drawn();
     }
@@ -156,11 +173,11 @@ pub fn packed(marks: impl ExactSizeIterator<Item = u8>) -> Vec<u8> {
 }
 
 /// "Combined picture and total": the combined sample of a position.
-pub fn combined(share: u8, tolerance: u8, left: Pixel, right: Pixel) -> u8 {
+pub fn combined(share: u8, tolerance: u8, left: Pixel, right: Pixel) -> u16 {
     let share = u32::from(share);
     match (left.mark, right.mark) {
         (0, 0) if left.front.abs_diff(right.front) <= tolerance => {
-            ((u32::from(left.sample) * (64 - share) + u32::from(right.sample) * share + 32) / 64) as u8
+            ((u32::from(left.sample) * (64 - share) + u32::from(right.sample) * share + 32) / 64) as u16
         }
         (0, 0) if left.front > right.front => left.sample,
         (0, 0) => right.sample,
@@ -174,11 +191,11 @@ pub fn combined(share: u8, tolerance: u8, left: Pixel, right: Pixel) -> u8 {
 /// Every held plane, and the total.
 #[derive(Clone, Debug, PartialEq, Eq)]
 pub struct Drawing {
-    pub samples: [Vec<u8>; 2],
+    pub samples: [Vec<u16>; 2],
     pub fronts: [Vec<u8>; 2],
     pub limits: [Vec<i16>; 2],
     pub marks: [Vec<u8>; 2],
-    pub combined: Vec<u8>,
+    pub combined: Vec<u16>,
     pub total: u64,
 }
 
@@ -208,7 +225,7 @@ pub fn drawing(settings: &Settings, pictures: &Pictures, depths: [&[u8]; 2]) -> 
         }
         for x in 0..w {
             let sample = combined(settings.share, settings.tolerance, rows[0].pixels[x], rows[1].pixels[x]);
-            let error = i64::from(sample) - i64::from(pictures.reference[y * w + x]);
+            let error = i64::from(sample) - i64::from(read(pictures.reference[y * w + x]));
             all.combined.push(sample);
             all.total += (error * error) as u64;
         }
@@ -232,12 +249,12 @@ pub fn written(settings: &Settings, depths: [&[u8]; 2], view: usize, block: Bloc
 pub fn lengths_are_exact(settings: &Settings, pictures: &Pictures, planes: &Planes) -> bool {
     let n = settings.w as usize * settings.h as usize;
     let m = mark_bytes(settings.w as usize) * settings.h as usize;
-    let bytes = [pictures.textures, planes.depths, planes.samples, planes.fronts];
-    bytes.iter().flatten().all(|plane| plane.len() == n)
+    let samples = [pictures.textures, planes.samples, [pictures.reference, planes.combined]];
+    let bytes = [planes.depths, planes.fronts];
+    samples.iter().flatten().all(|plane| plane.len() == n)
+        && bytes.iter().flatten().all(|plane| plane.len() == n)
         && planes.limits.iter().all(|plane| plane.len() == n)
         && planes.marks.iter().all(|plane| plane.len() == m)
-        && pictures.reference.len() == n
-        && planes.combined.len() == n
 }
 
 pub fn side_is_taken(n: u32) -> bool {
@@ -248,7 +265,7 @@ pub fn tables_are_taken(settings: &Settings) -> bool {
     settings.left.iter().chain(&settings.right).all(|&entry| entry <= 1023)
 }
 
-/// OPEN and CHECK refuse 1, 2, 3, 4. The number, 0 for none.
+/// CHECK refuses 1, 2, 3, 4. The number, 0 for none.
 pub fn common_number(settings: &Settings, pictures: &Pictures, planes: &Planes) -> u32 {
     if !side_is_taken(settings.w) || !side_is_taken(settings.h) {
         1
@@ -261,6 +278,25 @@ pub fn common_number(settings: &Settings, pictures: &Pictures, planes: &Planes) 
     } else {
         0
     }
+}
+
+/// OPEN refuses 1, 2, 3, 4, then 21, a texture or reference entry above 1,023.
+pub fn open_number(settings: &Settings, pictures: &Pictures, planes: &Planes) -> u32 {
+    let common = common_number(settings, pictures, planes);
+    let [left, right] = pictures.textures;
+    if common != 0 {
+        common
+    } else if [left, right, pictures.reference].into_iter().flatten().any(|&entry| entry > WHITE) {
+        21
+    } else {
+        0
+    }
+}
+
+/// Refusal 8: the total plus the change is from 0 to 1,046,529 × w × h.
+pub fn total_is_taken(settings: &Settings, change: i64) -> bool {
+    let total = i128::from(settings.total) + i128::from(change);
+    (0..=i128::from(WORST) * i128::from(settings.w) * i128::from(settings.h)).contains(&total)
 }
 
 /// GET and SET refuse 1, 2, 3, 4, 6, 5, 7, and then 8, which is left out here.
@@ -326,7 +362,8 @@ pub fn holes(settings: &Settings, marks: &[u8]) -> u64 {
     count
 }
 
-/// What CHECK answers for these planes and this total: the first difference by rows from a fresh drawing.
+/// What CHECK answers for these planes and this total: the first difference by rows from a fresh drawing, with which held
+/// samples are compared as they are.
 pub fn report(settings: &Settings, fresh: &Drawing, planes: &Planes) -> Report {
     let (w, h) = (settings.w as usize, settings.h as usize);
     let spare = |marks: &[u8], y: usize| if w % 8 == 0 { 0 } else { marks[(y + 1) * mark_bytes(w) - 1] >> (w % 8) };

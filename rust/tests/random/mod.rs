@@ -44,6 +44,20 @@ impl Random {
     pub fn bytes(&mut self, n: usize) -> Vec<u8> {
         (0..n).map(|_| self.byte()).collect()
     }
+
+    /// Entries of samples, of 16 bits, with anything in them.
+    pub fn entries(&mut self, n: usize) -> Vec<u16> {
+        (0..n).map(|_| self.next() as u16).collect()
+    }
+
+    /// An entry above the greatest sample.
+    pub fn high(&mut self) -> u16 {
+        match self.between(0, 3) {
+            0 => 1024,
+            1 => self.pick(&[1025, 2047, 2048, 32767, 32768, 65535]),
+            _ => self.between(1024, 65535) as u16,
+        }
+    }
 }
 
 /// A number from the environment, for repeating a run or a longer one.
@@ -117,23 +131,30 @@ fn near_table(random: &mut Random, w: usize) -> [u16; 256] {
     })
 }
 
-/// A plane of samples or depths: noise, few levels, a slope, or rectangles on a ground.
-pub fn plane(random: &mut Random, w: usize, h: usize) -> Vec<u8> {
-    let (low, high) = (random.byte(), random.byte());
+/// A plane of numbers from 0 to `most`, which is one below a power of two: noise, few levels, a slope, or rectangles on a
+/// ground.
+fn plane(random: &mut Random, w: usize, h: usize, most: u16) -> Vec<u16> {
+    let any = |random: &mut Random| random.next() as u16 & most;
+    let (low, high) = (any(random), any(random));
     match random.between(0, 4) {
-        0 => random.bytes(w * h),
+        0 => (0..w * h).map(|_| any(random)).collect(),
         1 => (0..w * h).map(|_| random.pick(&[low, high, high])).collect(),
-        2 => (0..w * h).map(|at| low.wrapping_add((at % w) as u8).wrapping_add((at / w) as u8)).collect(),
-        3 => (0..w * h).map(|_| low.wrapping_add(random.byte() % 6)).collect(),
+        2 => (0..w * h).map(|at| (low + (at % w + at / w) as u16) & most).collect(),
+        3 => (0..w * h).map(|_| (low + random.between(0, 5) as u16) & most).collect(),
         _ => {
             let mut plane = vec![low; w * h];
             for _ in 0..3 {
                 let b = block(random, w, h);
-                fill(&mut plane, w, b, random.byte());
+                fill(&mut plane, w, b, any(random));
             }
             plane
         }
     }
+}
+
+/// A plane of depths.
+fn depths(random: &mut Random, w: usize, h: usize) -> Vec<u8> {
+    plane(random, w, h, 255).into_iter().map(|depth| depth as u8).collect()
 }
 
 /// Depths of a ground, flat or not, with things before it that are one to three columns wide, their columns as near as each
@@ -153,22 +174,22 @@ fn near_plane(random: &mut Random, w: usize, h: usize) -> Vec<u8> {
     plane
 }
 
-/// A plane of samples: any plane, or black and white in runs of 1 to 4, where the filter passes 0 and 255.
-pub fn texture(random: &mut Random, w: usize, h: usize) -> Vec<u8> {
+/// A plane of samples from 0 to `white`: any plane, or black and white in runs of 1 to 4, where the filter passes both.
+pub fn texture(random: &mut Random, w: usize, h: usize, white: u16) -> Vec<u16> {
     if random.once_in(2) {
-        return plane(random, w, h);
+        return plane(random, w, h, white);
     }
-    let (longest, mut sample) = (random.between(1, 4), random.pick(&[0, 255]));
+    let (longest, mut sample) = (random.between(1, 4), random.pick(&[0, white]));
     let mut plane = Vec::new();
     while plane.len() < w * h {
         plane.resize(plane.len() + random.between(1, longest), sample);
-        sample = 255 - sample;
+        sample = white - sample;
     }
     plane.truncate(w * h);
     plane
 }
 
-fn fill(plane: &mut [u8], w: usize, block: Block, value: u8) {
+fn fill<T: Copy>(plane: &mut [T], w: usize, block: Block, value: T) {
     for y in block.row as usize..(block.row + block.height) as usize {
         let start = y * w + block.column as usize;
         plane[start..start + block.width as usize].fill(value);
@@ -232,13 +253,14 @@ pub fn candidate(random: &mut Random, w: usize, depths: &[u8], block: Block) -> 
 /// Pictures and depths of a session.
 pub struct Scene {
     pub settings: Settings,
-    pub textures: [Vec<u8>; 2],
-    pub reference: Vec<u8>,
+    pub textures: [Vec<u16>; 2],
+    pub reference: Vec<u16>,
     pub depths: [Vec<u8>; 2],
 }
 
 impl Scene {
-    /// A scene with this share and tolerance: one in three has thin near things before a ground.
+    /// A scene with this share and tolerance: one in three has thin near things before a ground, one in five has pictures of
+    /// eight bits.
     pub fn new(random: &mut Random, share: u8, tolerance: u8) -> Scene {
         let (w, h) = size(random);
         Scene::sized(random, w, h, share, tolerance)
@@ -251,9 +273,10 @@ impl Scene {
         let right = if random.once_in(2) { left } else { table(random) };
         let total = random.next();
         let settings = Settings { w: w as u32, h: h as u32, left, right, share, tolerance, total };
-        let textures = [texture(random, w, h), texture(random, w, h)];
-        let reference = if random.once_in(3) { textures[0].clone() } else { texture(random, w, h) };
-        let mut depths = || if near { near_plane(random, w, h) } else { plane(random, w, h) };
+        let white = if random.once_in(5) { 255 } else { 1023 };
+        let textures = [texture(random, w, h, white), texture(random, w, h, white)];
+        let reference = if random.once_in(3) { textures[0].clone() } else { texture(random, w, h, white) };
+        let mut depths = || if near { near_plane(random, w, h) } else { depths(random, w, h) };
         Scene { settings, textures, reference, depths: [depths(), depths()] }
     }
 
@@ -306,19 +329,20 @@ impl<T: Copy + PartialEq> Guarded<T> {
 #[derive(Clone, PartialEq, Eq, Debug)]
 pub struct GuardedPlanes {
     pub depths: [Guarded<u8>; 2],
-    pub samples: [Guarded<u8>; 2],
+    pub samples: [Guarded<u16>; 2],
     pub fronts: [Guarded<u8>; 2],
     pub limits: [Guarded<i16>; 2],
     pub marks: [Guarded<u8>; 2],
-    pub combined: Guarded<u8>,
+    pub combined: Guarded<u16>,
 }
 
 impl GuardedPlanes {
     /// Planes of the right lengths for a picture of w × h, with anything in the held ones.
     pub fn new(random: &mut Random, w: usize, h: usize, depths: [&[u8]; 2]) -> GuardedPlanes {
         let mut pair = |n: usize| [(); 2].map(|()| Guarded::new(&random.bytes(n), 0xa5));
-        let (samples, fronts, marks) = (pair(w * h), pair(w * h), pair(w.div_ceil(8) * h));
-        let combined = Guarded::new(&random.bytes(w * h), 0xa5);
+        let (fronts, marks) = (pair(w * h), pair(w.div_ceil(8) * h));
+        let mut samples = || Guarded::new(&random.entries(w * h), 0xa5a5);
+        let (samples, combined) = ([samples(), samples()], samples());
         let limits = [(); 2].map(|()| Guarded::new(&garbage_limits(random, w * h), -23206));
         GuardedPlanes { depths: depths.map(|plane| Guarded::new(plane, 0xa5)), samples, fronts, limits, marks, combined }
     }
@@ -346,8 +370,11 @@ impl GuardedPlanes {
     }
 
     pub fn are_intact(&self) -> bool {
-        let bytes = [&self.depths, &self.samples, &self.fronts, &self.marks];
-        bytes.into_iter().flatten().all(Guarded::is_intact) && self.limits.iter().all(Guarded::is_intact) && self.combined.is_intact()
+        let bytes = [&self.depths, &self.fronts, &self.marks];
+        bytes.into_iter().flatten().all(Guarded::is_intact)
+            && self.samples.iter().all(Guarded::is_intact)
+            && self.limits.iter().all(Guarded::is_intact)
+            && self.combined.is_intact()
     }
 }
 

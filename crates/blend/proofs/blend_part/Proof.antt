@@ -4,6 +4,7 @@ use mathlib.Core.List.{List}
 use mathlib.Core.Path.{_≡_, refl, _∙_}
 use native.Mathlib.Omega.{arith}
 use lib.ListN.{length, length-set}
+use borrow.Author.Needs.{needs}
 use Rattle.marks.specs.Puts.{heldPixel}
 use Rattle.sums.specs.Sides.{paired}
 use Rattle.planes.specs.Parts.{Filled}
@@ -70,6 +71,7 @@ blend-part-spec =
     loop-holds
     add-blend-at
     blend-at-requires
+    (λ c. search needs)
     slice-write-part
     add-i
     loop-less

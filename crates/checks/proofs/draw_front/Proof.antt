@@ -43,6 +43,7 @@ draw-front-spec =
     (λ c. search needs)
     (λ c. search needs)
     (λ c. search needs)
+    (λ c. search needs)
     slice-aggregate-draw-plane-row
     draw-plane-row-requires
     returns)

@@ -1,7 +1,7 @@
 -- `checks::walk` meets its contract. Between rows no difference has been found and the rows' errors are summed; within a row the same holds
 -- up to the column.
 use Prim.Native.Nat.{_-_, _≤_}
-use mathlib.Core.Path.{_≡_, refl, sym, _∙_}
+use mathlib.Core.Path.{_≡_, refl, sym, ap, _∙_}
 use native.Mathlib.Omega.{arith}
 use borrow.Author.Tests.{not-true, not-false}
 use Rattle.model.specs.declared.Settings.{Settings}
@@ -9,6 +9,8 @@ use Rattle.model.specs.Planes.{Pictures, Depths, Held, pictures, depths, view, 
 use Rattle.model.proofs.Refusals.{Common, common-facts}
 use Rattle.checks.specs.declared.Place.the-variants.{None}
 use Rattle.checks.specs.Walks.{settingsOf}
+use Rattle.model.specs.Combined.{squareError}
+use Rattle.model.proofs.Totals.{sample-most}
 use Rattle.checks.proofs.Positions.{RowIn, row-within, EntryIn, entry-within}
 use Rattle.checks.proofs.Drawing.{Seen, seen-at, error-is}
 use Rattle.checks.proofs.Passed.{Passed, passed-none, passed-next, passed-row, walked-all, walked-at}
@@ -135,17 +137,23 @@ cast-t61 c = omega (arith, entry-in (column-of (c .before)) .low)
 cast-t62 : tie.Need-cast-t62 Inv-loop μ-loop Inv-rows μ-rows
 cast-t62 c = omega (arith, entry-in (column-of (c .before)) .near)
 
-mul-square-error : tie.Need-mul-square-error Inv-loop μ-loop Inv-rows μ-rows
-mul-square-error c = omega (arith, entry-in (column-of (c .before)) .few)
+mul-sample-in : tie.Need-mul-sample-in Inv-loop μ-loop Inv-rows μ-rows
+mul-sample-in c = omega (arith, entry-in (column-of (c .before)) .few)
 
-add-square-error : tie.Need-add-square-error Inv-loop μ-loop Inv-rows μ-rows
-add-square-error c = omega (arith, entry-in (column-of (c .before)) .few)
+add-sample-in : tie.Need-add-sample-in Inv-loop μ-loop Inv-rows μ-rows
+add-sample-in c = omega (arith, entry-in (column-of (c .before)) .few)
 
-shared-slice-read-square-error : tie.Need-shared-slice-read-square-error Inv-loop μ-loop Inv-rows μ-rows
-shared-slice-read-square-error c = entry-in (column-of (c .before .before)) .reference
+sample-in-requires : tie.Need-sample-in-requires Inv-loop μ-loop Inv-rows μ-rows
+sample-in-requires c κs = entry-in (column-of (c .before)) .reference
 
 square-error-requires : tie.Need-square-error-requires Inv-loop μ-loop Inv-rows μ-rows
-square-error-requires c κs = start-of (row-of (column-of (c .before .before))) .pre .0
+square-error-requires c κs =
+    let k = c .before .before in
+    let l = column-of k in
+    let r = row-of l in
+    let s = start-of r in
+    let shown = sample-most (settings-of s) (pictures-of s) (depths-of s) (common s .depths) (common s .share) (r .before .rows .y) (l .before .loop .x) (r .rows-test .taken) (l .loop-test .taken) in
+    (s .pre .0, (rw (seen-in k .shown-is) shown, c .sample-in .ensures .1))
 
 cast-sum : tie.Need-cast-sum Inv-loop μ-loop Inv-rows μ-rows
 cast-sum c = omega (arith, c .square-error .ensures .1)
@@ -174,7 +182,7 @@ loop-again c =
         i .inv .1 .0,
         passed-next (settings-of s) (pictures-of s) (depths-of s) (held-of s) (r .before .rows .y) (i .x) (i .sum) (c .square-error .result) lx (i .inv .1 .1)
             (sym (seen .same-is) ∙ not-false _ (c .before .before .if1 .left))
-            (error-is (settings-of s) (pictures-of s) (depths-of s) (r .before .rows .y) (i .x) _ (c .square-error .result) (seen .shown-is) (c .square-error .ensures .0))
+            (error-is (settings-of s) (pictures-of s) (depths-of s) (r .before .rows .y) (i .x) _ (c .square-error .result) (seen .shown-is) (c .square-error .ensures .0 ∙ ap (squareError _) (c .before .sample-in .ensures .0)))
             (c .square-error .ensures .1),
       ),
     )
@@ -232,9 +240,9 @@ walk-spec =
     same-at-requires
     cast-t61
     cast-t62
-    mul-square-error
-    add-square-error
-    shared-slice-read-square-error
+    mul-sample-in
+    add-sample-in
+    sample-in-requires
     square-error-requires
     cast-sum
     add-sum

@@ -2,6 +2,7 @@
 use Prim.Native.Nat.{_+_, _-_, _*_}
 use mathlib.Core.Path.{ap, _∙_}
 use denote.Ref.{now}
+use native.Mathlib.Omega.{arith}
 use lib.ListN.{length}
 use borrow.Author.Needs.{needs}
 use Rattle.planes.specs.Parts.{splice}
@@ -9,6 +10,11 @@ use Rattle.planes.proofs.Splices.{part-length, put-back}
 use Rattle.combine.proofs.Combined.{part-in, rows-reach, part-rows}
 use Rattle.combine.proofs.combine_row.Statement.{statement}
 use Rattle.combine.proofs.combine_row.Tie as tie
+
+mul-blend-part-3 : tie.Need-mul-blend-part-3
+mul-blend-part-3 c =
+    let s = c .before .before .before .before .before .before .before .before .before .before .before .before .before in
+    omega (arith, s .pre .0 .1 .1, s .pre .1 .1, s .good)
 
 part-blend-part-end-7 : tie.Need-part-blend-part-end-7
 part-blend-part-end-7 c =
@@ -70,6 +76,9 @@ combine-row-spec =
     (λ c. search needs)
     (λ c. search needs)
     (λ c. search needs)
+    (λ c. search needs)
+    (λ c. search needs)
+    mul-blend-part-3
     (λ c. search needs)
     (λ c. search needs)
     part-blend-part-end-7

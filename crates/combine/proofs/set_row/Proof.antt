@@ -25,7 +25,7 @@ returns c =
     let cr = c .before .before .before .before .before .before .before .before .before .before .before .before .before .before .before .before .commit-row in
     row-set (a .right) (now (a .table)) (a .share) (a .tolerance) (a .w) (a .y) (a .column) (cr .result .from) (cr .result .to) (now (a .texture)) (now (a .candidate)) (now (a .samples2)) (now (a .fronts2)) (now (a .marks2)) (now (a .depths)) (cr .last .1 .1 .1 .1 .1 .1 .1 .0)
     (view (now (a .samples)) (now (a .fronts)) (now (a .limits)) (now (a .marks))) (view (cr .last .1 .1 .1 .1 .1 .1 .1 .1 .0) (cr .last .1 .1 .1 .1 .1 .1 .1 .1 .1 .0) (cr .last .1 .1 .1 .1 .1 .1 .1 .1 .1 .1 .0) (cr .last .1 .1 .1 .1 .1 .1 .1 .1 .1 .1 .1 .0))
-    (now (a .combined)) (c .before .before .combine-row .last .1 .1 .1 .1 .1 .1 .1 .1 .1 .1 .1 .1 .1 .0) (s .pre .1 .1 .0 .1) (cr .ensures) (c .before .before .combine-row .ensures)
+    (now (a .combined)) (c .before .before .combine-row .last .1 .1 .1 .1 .1 .1 .1 .1 .1 .1 .1 .1 .1 .0) (s .pre .0 .1 .0) (s .pre .1 .1 .0 .1) (cr .ensures) (c .before .before .combine-row .ensures)
 
 pub set-row-spec : {M : Type 1} → statement M
 set-row-spec =

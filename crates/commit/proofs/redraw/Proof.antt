@@ -85,6 +85,7 @@ redraw-spec =
     (λ c. search needs)
     (λ c. search needs)
     (λ c. search needs)
+    (λ c. search needs)
     draw-stretch-requires
     (λ c. search needs)
     (λ c. search needs)

@@ -56,6 +56,7 @@ redraw-row-spec =
     (λ c. search needs)
     (λ c. search needs)
     (λ c. search needs)
+    (λ c. search needs)
     redraw-requires
     (λ c. search needs)
     (λ c. search needs)

@@ -1,5 +1,6 @@
 -- `compare::same_at` meets its contract: the left view, the right view, then the combined sample.
 use native.Mathlib.Omega.{arith}
+use borrow.Author.Needs.{needs}
 use Rattle.compare.proofs.Ways.{left-differs, right-differs, views-agree}
 use Rattle.compare.proofs.same_at.Statement.{statement}
 use Rattle.compare.proofs.same_at.Tie as tie
@@ -41,6 +42,9 @@ returns-3 c =
     let t = c .before .before .before in
     views-agree _ _ _ _ _ _ _ _ (t .before .same-view .ensures) _ (c .before .before .same-view2 .ensures) (t .if1 .left) (c .before .if2 .left)
 
+mul-sample-2 : tie.Need-mul-sample-2
+mul-sample-2 c = omega (arith, c .before .before .before .before .before .before .before .before .before .before .before .pre .1 .1 .0, c .before .before .before .before .before .before .before .before .before .before .before .good)
+
 pub same-at-spec : {M : Type 1} → statement M
 same-at-spec =
     tie.close
@@ -51,5 +55,6 @@ same-at-spec =
     returns-2
     mul-sample
     add-sample
+    mul-sample-2
     shared-slice-read-sample
     returns-3)

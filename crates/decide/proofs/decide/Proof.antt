@@ -4,10 +4,9 @@ use lib.ListN.{length}
 use Rattle.model.specs.declared.Settings.{Settings}
 use Rattle.model.specs.Planes.{Pictures, Depths, Held, pictures, depths}
 use Rattle.model.specs.Refusals.{numberOf, earlyNumber}
-use Rattle.model.proofs.Totals.{BytePictures}
 use Rattle.validate.proofs.Numbers.{early-number}
 use Rattle.decide.specs.Decided.{settingsOf, heldOf}
-use Rattle.decide.proofs.Ways.{bytes, passed, tried-total, decided-early, decided-late}
+use Rattle.decide.proofs.Ways.{passed, tried-total, decided-early, decided-late}
 use borrow.Author.Needs.{needs}
 use Rattle.decide.proofs.decide.Statement.{statement}
 use Rattle.decide.proofs.decide.Tie as tie
@@ -42,14 +41,6 @@ found c total =
 none : (c : tie.Else1) (total : ℕ) → let a = start (c .before .before) in earlyNumber (settings a total) (shown a) (lent a) (kept a) (a .args .view) (a .args .block) (length (a .args .candidate .now)) ≡ 0
 none c total = sym (found (c .before .before) total) ∙ sym (c .before .number .ensures) ∙ c .if1 .left
 
-byte-pictures : (c : tie.After-early) → BytePictures (shown (start c))
-byte-pictures c =
-    record {
-      left = bytes _ (c .before .before .before .before .before .before .before .before .before .before .before .before .before .shared-slice-known .given);
-      right = bytes _ (c .before .before .before .before .before .before .before .before .before .before .before .before .shared-slice-known2 .given);
-      reference = bytes _ (c .before .before .before .before .before .before .before .before .before .before .before .shared-slice-known3 .given);
-    }
-
 returns : tie.Need-returns
 returns c =
     let r = c .refused .ensures in
@@ -70,7 +61,7 @@ returns-2 c =
     let e = c .before .before .before in
     let a = start (e .before .before) in
     let s = settings a (a .args .total) in
-    decided-late s (shown a) (lent a) (kept a) (a .args .view) (a .args .block) (a .args .candidate .now) (c .judge .result) (none e (a .args .total)) (byte-pictures (e .before .before))
+    decided-late s (shown a) (lent a) (kept a) (a .args .view) (a .args .block) (a .args .candidate .now) (c .judge .result) (none e (a .args .total))
     (tried-total s (shown a) (lent a) (kept a) (a .args .view) (a .args .block) (a .args .candidate .now) 0 (c .before .before .try-candidate .ensures))
     (rw (c .before .most-total .ensures .0) at (c .judge .ensures))
 

@@ -1,8 +1,12 @@
 -- `draw::blend_row` meets its contract.
 use Rattle.draw.proofs.Pictures.{parts-reach, row-combined}
+use native.Mathlib.Omega.{arith}
 use borrow.Author.Needs.{needs}
 use Rattle.draw.proofs.blend_row.Statement.{statement}
 use Rattle.draw.proofs.blend_row.Tie as tie
+
+mul-blend-part-3 : tie.Need-mul-blend-part-3
+mul-blend-part-3 c = omega (arith, c .before .before .before .before .before .before .before .before .before .before .before .before .before .pre .1 .1, c .before .before .before .before .before .before .before .before .before .before .before .before .before .good)
 
 blend-part-requires : tie.Need-blend-part-requires
 blend-part-requires c κs =
@@ -44,6 +48,9 @@ blend-row-spec =
     (λ c. search needs)
     (λ c. search needs)
     (λ c. search needs)
+    (λ c. search needs)
+    (λ c. search needs)
+    mul-blend-part-3
     (λ c. search needs)
     (λ c. search needs)
     (λ c. search needs)

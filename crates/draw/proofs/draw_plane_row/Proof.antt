@@ -92,6 +92,8 @@ draw-plane-row-spec =
     (λ c. search needs)
     (λ c. search needs)
     (λ c. search needs)
+    (λ c. search needs)
+    (λ c. search needs)
     draw-row-requires
     add-bytes
     mul-first

@@ -7,9 +7,9 @@ use Rattle.rowprint.proofs.put_position.Tie as tie
 returns : tie.Need-returns
 returns c =
     let a = c .before .before .before .before .before .before .before .before .before .before .before .before .before .before .before .before .before .before .before .before .args in
-    let sample = c .before .before .before .before .before .before .before .before .before .before .before .before .before .wide in
-    let mark = c .before .before .before .before .before .before .before .before .wide2 in
-    let front = c .before .before .before .wide3 in
+    let sample = c .before .before .before .before .before .before .before .before .before .before .before .before .before .wide-sample in
+    let mark = c .before .before .before .before .before .before .before .before .wide in
+    let front = c .before .before .before .wide2 in
     rw (← sample .ensures .0, ← mark .ensures .0, ← front .ensures .0)
     (put-position (a .p) (sample .result) (mark .result) (front .result)
     (c .before .before .before .before .before .before .before .before .before .before .before .before .before .before .before .before .before .put-field .ensures) (c .before .before .before .before .before .before .before .before .before .before .before .before .put-field2 .ensures) (c .before .before .before .before .before .before .before .put-field3 .ensures) (c .before .before .put-field4 .ensures))

@@ -44,6 +44,7 @@ put-row-spec =
     (λ c κs. search needs)
     loop-holds
     (λ c. search needs)
+    (λ c. search needs)
     (λ c κs. search needs)
     (λ c. search needs)
     (λ c κs. search needs)

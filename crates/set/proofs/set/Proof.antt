@@ -5,10 +5,8 @@ use mir.Syntax.{w64}
 use mir.Val.{SFits}
 use lib.ListN.{length}
 use Rattle.model.specs.Planes.{pictures, depths}
-use Rattle.model.proofs.Totals.{BytePictures}
 use Rattle.validate.proofs.Numbers.{early-number}
 use Rattle.decide.specs.Decided.{heldOf}
-use Rattle.decide.proofs.Ways.{bytes}
 use Rattle.set.proofs.Settling.{refused, settled}
 use borrow.Author.Needs.{needs}
 use Rattle.set.proofs.set.Statement.{statement}
@@ -44,13 +42,7 @@ returns-2 c =
     let found = c .before .before .before .before .before .before .before .before .before .before .before .before .before .before .before .before .before .before .before .before .before .before .before .before .before .before .before .before .before .before .before .before .before .before .before .before .before .before .early .ensures ∙ early-number (a .t1) p d h (a .view) (a .block) (length (a .candidate .now)) in
     let settling = c .before .before .before .before .before .before .before .before .before .before .before .before .before .before .before .before .before .before .before .before .before .settle-view in
     let fits : SFits w64 (settling .result .change) = (let told = c .struct-told in search needs) in
-    let byte : BytePictures p =
-    record {
-      left = bytes _ (c .before .before .before .before .before .before .before .before .before .before .before .before .before .before .before .before .before .before .before .before .before .before .before .before .before .before .before .before .before .before .before .before .before .before .before .before .before .before .before .before .before .before .before .before .before .before .before .before .before .before .before .before .before .before .shared-slice-known .given);
-      right = bytes _ (c .before .before .before .before .before .before .before .before .before .before .before .before .before .before .before .before .before .before .before .before .before .before .before .before .before .before .before .before .before .before .before .before .before .before .before .before .before .before .before .before .before .before .before .before .before .before .before .before .before .before .before .before .before .shared-slice-known2 .given);
-      reference = bytes _ (c .before .before .before .before .before .before .before .before .before .before .before .before .before .before .before .before .before .before .before .before .before .before .before .before .before .before .before .before .before .before .before .before .before .before .before .before .before .before .before .before .before .before .before .before .before .before .before .before .before .before .before .before .shared-slice-known3 .given);
-    } in
-    settled (a .t1) p d h (a .view) (a .block) (a .candidate .now) (settling .result) _ (toZ-ofZ fits) _ _ (sym found ∙ sym (c .before .before .before .before .before .before .before .before .before .before .before .before .before .before .before .before .before .before .before .before .before .before .before .before .before .before .before .before .before .before .before .before .before .before .before .before .before .number .ensures) ∙ c .before .before .before .before .before .before .before .before .before .before .before .before .before .before .before .before .before .before .before .before .before .before .before .before .before .before .before .before .before .before .before .before .before .before .before .before .if1 .left) byte (settling .ensures)
+    settled (a .t1) p d h (a .view) (a .block) (a .candidate .now) (settling .result) _ (toZ-ofZ fits) _ _ (sym found ∙ sym (c .before .before .before .before .before .before .before .before .before .before .before .before .before .before .before .before .before .before .before .before .before .before .before .before .before .before .before .before .before .before .before .before .before .before .before .before .before .number .ensures) ∙ c .before .before .before .before .before .before .before .before .before .before .before .before .before .before .before .before .before .before .before .before .before .before .before .before .before .before .before .before .before .before .before .before .before .before .before .before .if1 .left) (settling .ensures)
 
 pub set-spec : {M : Type 1} → statement M
 set-spec =

@@ -3,6 +3,7 @@ use mathlib.Core.Path.{_≡_, _∙_}
 use mathlib.Core.Bool.{cond}
 use mathlib.Core.Logic.{⊎-elim}
 use borrow.Author.Needs.{needs}
+use borrow.Author.Tests.{leb-true, leb-false}
 use Rattle.sums.specs.Sides.{paired}
 use Rattle.sums.proofs.Sides.{both-shown, shown-both, paired-shared, paired-chosen}
 use Rattle.sums.proofs.paired.Statement.{statement}
@@ -17,7 +18,7 @@ chosen c =
     rw (c .prefers .ensures)
     (paired-chosen (a .right) (a .share) (a .tolerance) (a .own) (a .other)
     (λ p q.
-    ⊎-elim (λ x. rw (x .1 .ensures) at (x .2 .left))
+    ⊎-elim (λ x. leb-false _ _ (rw (x .1 .ensures) at (x .2 .left)))
     (λ x. absurd (x .left (shown-both (a .own .mark) (a .other .mark) p q)))
     (c .before .if1 .came)))
 
@@ -26,7 +27,7 @@ returns c =
     let s = c .before .before .before .before .before .before .before in
     let a = s .args in
     let marks = both-shown (a .own .mark) (a .other .mark) (c .before .before .before .before .if1 .taken) in
-    let near = rw (c .before .before .before .apart .ensures) at (c .before .before .if2 .taken) in
+    let near = leb-true _ _ (rw (c .before .before .before .near .ensures) at (c .before .before .if2 .taken)) in
     c .shared .ensures
     ∙ rw (c .before .own-share .ensures .0) (paired-shared (a .right) (a .share) (a .tolerance) (a .own) (a .other) (s .pre) (marks .0) (marks .1) near)
 

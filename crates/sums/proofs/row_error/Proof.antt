@@ -3,8 +3,9 @@ use Prim.Native.Nat.{_-_, _*_, _≤_}
 use mathlib.Core.Path.{_≡_, refl, _∙_}
 use native.Mathlib.Omega.{arith}
 use native.Mathlib.Numerals.{add-one}
-use lib.ListN.{length, getD}
+use lib.ListN.{length}
 use Rattle.model.specs.Lists.{sumTo}
+use Rattle.model.specs.Row.{sampleIn}
 use Rattle.model.specs.Combined.{worst, squareError}
 use Rattle.sums.proofs.row_error.Statement.{statement}
 use Rattle.sums.proofs.row_error.Tie as tie
@@ -12,7 +13,7 @@ use Rattle.sums.proofs.row_error.Tie as tie
 abbrev Inv-loop : tie.InvT-loop
 Inv-loop squares combined reference sum₀ i₀ sum i =
     (i ≤ length combined)
-    × ((sum ≤ worst * i) × (sum ≡ sumTo (λ k. squareError (getD combined k 0) (getD reference k 0)) i))
+    × ((sum ≤ worst * i) × (sum ≡ sumTo (λ k. squareError (sampleIn combined k) (sampleIn reference k)) i))
 
 abbrev μ-loop : tie.MeasureT-loop
 μ-loop squares combined reference sum₀ i₀ sum i = length combined - i
@@ -21,14 +22,8 @@ loop-holds : tie.Need-loop-holds Inv-loop μ-loop
 unfolding sumTo
 loop-holds c = (omega arith, (omega arith, refl))
 
-shared-slice-read-square-error : tie.Need-shared-slice-read-square-error Inv-loop μ-loop
-shared-slice-read-square-error c = omega arith
-
-shared-slice-read-square-error-2 : tie.Need-shared-slice-read-square-error-2 Inv-loop μ-loop
-shared-slice-read-square-error-2 c = omega arith
-
-square-error-requires : tie.Need-square-error-requires Inv-loop μ-loop
-square-error-requires c κs = c .before .before .before .before .before .before .pre .0
+error-at-requires : tie.Need-error-at-requires Inv-loop μ-loop
+error-at-requires c κs = (c .before .before .before .before .pre .0, (omega arith, omega arith))
 
 add-sum : tie.Need-add-sum Inv-loop μ-loop
 add-sum c = omega arith
@@ -42,8 +37,8 @@ loop-less c = omega arith
 loop-again : tie.Need-loop-again Inv-loop μ-loop
 unfolding sumTo
 loop-again c =
-    let l = c .before .before .before .before .loop in
-    (omega arith, (omega arith, rw (add-one (l .i)) (rw (c .square-error .ensures .0, l .inv .1 .1))))
+    let l = c .before .before .loop in
+    (omega arith, (omega arith, rw (add-one (l .i)) (rw (c .error-at .ensures .0, l .inv .1 .1))))
 
 returns : tie.Need-returns Inv-loop μ-loop
 returns c =
@@ -58,9 +53,7 @@ row-error-spec =
     Inv-loop
     μ-loop
     loop-holds
-    shared-slice-read-square-error
-    shared-slice-read-square-error-2
-    square-error-requires
+    error-at-requires
     add-sum
     add-i
     loop-less

@@ -1,4 +1,4 @@
--- `sums::shared` meets its contract: the two weights add up to 64, so that the sum is at most 64 × 255 + 32.
+-- `sums::shared` meets its contract: the two weights add up to 64, so that the sum is at most 64 × 65,535 + 32.
 use Prim.Native.Nat.{_-_, _*_, _≤_}
 use native.Mathlib.Nat.{mul-le-mul-right}
 use native.Mathlib.Omega.{arith}
@@ -8,8 +8,8 @@ use Rattle.model.specs.Combined as model
 use Rattle.sums.proofs.shared.Statement.{statement}
 use Rattle.sums.proofs.shared.Tie as tie
 
--- each product is at most 255 times its weight
-parts : (c : tie.Start) → (c .args .left * (64 - c .args .share) ≤ 255 * (64 - c .args .share)) × (c .args .right * c .args .share ≤ 255 * c .args .share)
+-- each product is at most 65,535 times its weight
+parts : (c : tie.Start) → (c .args .left * (64 - c .args .share) ≤ 65535 * (64 - c .args .share)) × (c .args .right * c .args .share ≤ 65535 * c .args .share)
 parts c = (mul-le-mul-right (64 - c .args .share) (omega arith), mul-le-mul-right (c .args .share) (omega arith))
 
 mul-result : tie.Need-mul-result

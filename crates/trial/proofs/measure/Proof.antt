@@ -21,42 +21,38 @@ abbrev μ-loop : tie.MeasureT-loop
 loop-holds : tie.Need-loop-holds Inv-loop μ-loop
 loop-holds c = (omega arith, measured-none _ _ _)
 
-shared-slice-read-square-error : tie.Need-shared-slice-read-square-error Inv-loop μ-loop
-shared-slice-read-square-error c = omega (arith, c .before .loop-test .taken)
+shared-slice-read-t23 : tie.Need-shared-slice-read-t23 Inv-loop μ-loop
+shared-slice-read-t23 c = omega (arith, c .before .loop-test .taken)
 
 shared-slice-read-t25 : tie.Need-shared-slice-read-t25 Inv-loop μ-loop
-shared-slice-read-t25 c = omega (arith, c .before .before .loop-test .taken, c .before .before .before .before .before .before .before .before .before .before .before .before .pre .1 .1 .1)
+shared-slice-read-t25 c = omega (arith, c .before .before .loop-test .taken, c .before .before .before .before .before .before .before .before .before .before .before .before .pre .1 .1 .1 .0)
 
-shared-slice-read-square-error-2 : tie.Need-shared-slice-read-square-error-2 Inv-loop μ-loop
-shared-slice-read-square-error-2 c = omega (arith, c .before .before .before .loop-test .taken, c .before .before .before .before .before .before .before .before .before .before .before .before .before .pre .1 .1 .1)
+shared-slice-read-t27 : tie.Need-shared-slice-read-t27 Inv-loop μ-loop
+shared-slice-read-t27 c = omega (arith, c .before .before .before .loop-test .taken, c .before .before .before .before .before .before .before .before .before .before .before .before .before .pre .1 .1 .1 .0)
 
 error-with-requires : tie.Need-error-with-requires Inv-loop μ-loop
 error-with-requires c κs =
     let p = c .before .before .before .before .before .before .before .before .before .before .before .before .before .pre in
-    (p .0, (omega (arith, p .1), (omega (arith, p .1), (omega (arith, p .1), omega (arith, p .1)))))
+    ((p .0 .0, (p .0 .1, p .1 .1 .1 .1 _)), (omega (arith, p .1 .0, p .1 .1 .0), (omega (arith, p .1 .0, p .1 .1 .0), (omega (arith, p .1 .0, p .1 .1 .0), omega (arith, p .1 .0, p .1 .1 .0)))))
 
 add-new : tie.Need-add-new Inv-loop μ-loop
 add-new c = omega (arith, c .before .before .before .before .before .before .loop .inv .0, c .before .before .before .before .before .before .loop .inv .1 .new-most, c .before .error-with .ensures .1, c .wide .ensures, c .before .before .before .before .before .before .before .before .before .before .before .before .before .before .before .pre .1 .1 .0)
 
-shared-slice-read-square-error-3 : tie.Need-shared-slice-read-square-error-3 Inv-loop μ-loop
-shared-slice-read-square-error-3 c = omega (arith, c .before .before .before .before .before .before .loop-test .taken, c .before .before .before .before .before .before .before .before .before .before .before .before .before .before .before .before .pre .1)
-
-shared-slice-read-square-error-4 : tie.Need-shared-slice-read-square-error-4 Inv-loop μ-loop
-shared-slice-read-square-error-4 c = omega (arith, c .before .before .before .before .before .before .before .loop-test .taken, c .before .before .before .before .before .before .before .before .before .before .before .before .before .before .before .before .before .pre .1)
-
-square-error-requires : tie.Need-square-error-requires Inv-loop μ-loop
-square-error-requires c κs = c .before .before .before .before .before .before .before .before .before .before .before .before .before .before .before .before .before .pre .0 .0
+error-at-requires : tie.Need-error-at-requires Inv-loop μ-loop
+error-at-requires c κs =
+    let p = c .before .before .before .before .before .before .before .before .before .before .before .before .before .before .before .pre in
+    (p .0 .0, (omega (arith, c .before .before .before .before .before .loop-test .taken, p .1 .0, p .1 .1 .0), omega (arith, c .before .before .before .before .before .loop-test .taken, p .1 .0, p .1 .1 .0)))
 
 add-old : tie.Need-add-old Inv-loop μ-loop
-add-old c = omega (arith, c .before .before .before .before .before .before .before .before .before .before .loop .inv .0, c .before .before .before .before .before .before .before .before .before .before .loop .inv .1 .old-most, c .before .square-error .ensures .1, c .wide2 .ensures, c .before .before .before .before .before .before .before .before .before .before .before .before .before .before .before .before .before .before .before .pre .1 .1 .0)
+add-old c = omega (arith, c .before .before .before .before .before .before .before .before .loop .inv .0, c .before .before .before .before .before .before .before .before .loop .inv .1 .old-most, c .before .error-at .ensures .1, c .wide2 .ensures, c .before .before .before .before .before .before .before .before .before .before .before .before .before .before .before .before .before .pre .1 .1 .0)
 
 loop-again : tie.Need-loop-again Inv-loop μ-loop
 loop-again c =
-    let i = c .before .before .before .before .before .before .before .before .before .before .loop in
-    let old = c .before .square-error .ensures in
-    let new = c .before .before .before .before .before .error-with .ensures in
-    let w = c .before .before .before .before .wide .ensures in (
-      omega (arith, c .before .before .before .before .before .before .before .before .before .loop-test .taken),
+    let i = c .before .before .before .before .before .before .before .before .loop in
+    let old = c .before .error-at .ensures in
+    let new = c .before .before .before .error-with .ensures in
+    let w = c .before .before .wide .ensures in (
+      omega (arith, c .before .before .before .before .before .before .before .loop-test .taken),
       measured-next (i .inv .1) (c .wide2 .ensures ∙ old .0) (omega (arith, c .wide2 .ensures, old .1)) (w ∙ new .0) (omega (arith, w, new .1)),
     )
 
@@ -74,15 +70,14 @@ measure-spec =
     μ-loop
     loop-holds
     (λ c. search needs)
-    shared-slice-read-square-error
+    (λ c. search needs)
+    shared-slice-read-t23
     shared-slice-read-t25
-    shared-slice-read-square-error-2
+    shared-slice-read-t27
     error-with-requires
     (λ c κs. search needs)
     add-new
-    shared-slice-read-square-error-3
-    shared-slice-read-square-error-4
-    square-error-requires
+    error-at-requires
     (λ c κs. search needs)
     add-old
     (λ c. search needs)

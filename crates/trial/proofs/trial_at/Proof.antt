@@ -59,5 +59,6 @@ trial-at-spec =
     (λ c. search needs)
     (λ c. search needs)
     (λ c. search needs)
+    (λ c. search needs)
     trial-beside-requires
     returns)

@@ -67,5 +67,8 @@ trial-beside-spec =
     (λ c. search needs)
     (λ c. search needs)
     (λ c. search needs)
+    (λ c. search needs)
+    (λ c. search needs)
+    (λ c. search needs)
     trial-row-requires
     returns)

@@ -9,9 +9,10 @@ use Rattle.planes.specs.Parts.{splice}
 use Rattle.planes.proofs.Splices.{length-splice}
 use Rattle.pixel.specs.Pairs.{edgeRight}
 use Rattle.row.specs.Drawing.{pixelBelow, lineWith}
+use Rattle.row.proofs.Below.{below-sample}
 use Rattle.row.proofs.Pass.{ahead-within}
 use Rattle.trial.specs.Trial.{around}
-use Rattle.trial.proofs.Rows.{measured-summed}
+use Rattle.trial.proofs.Rows.{measured-summed, strip-most}
 use borrow.Author.Needs.{needs}
 use Rattle.trial.proofs.trial_into.Statement.{statement}
 use Rattle.trial.proofs.trial_into.Tie as tie
@@ -38,13 +39,17 @@ measure-requires c κs =
     let wide = length-seen (a .right) (splice (now (a .depths)) (a .column) (now (a .candidate))) ∙ length-splice (now (a .depths)) (a .column) (now (a .candidate)) (p .1 .1 .0 .1 .0) in
     let k = c .before .before .before .before .before .before .before .before .before .before .draw-span .kept .1 .1 .1 .1 .1 .1 .1 .1 in
     let n = k .0 in
+    let l = lineWith (a .right) (now (a .table)) (now (a .texture)) (now (a .depths)) (a .column) (now (a .candidate)) in
     let inside = ahead-within (p .1 .1 .1 .0) .1 in (
       p .0,
       (
         p .1 .0,
         (
           (omega (arith, n, c .before .before .before .part-start .ensures .1, p .1 .1 .0 .1 .1, wide, inside), omega (arith, p .1 .1 .0 .0 .most, p .1 .1 .0 .1 .1, wide)),
-          (k .1 .0 ∙ p .1 .1 .1 .1 .0 ∙ sym n, k .1 .1 .0 ∙ p .1 .1 .1 .1 .1 ∙ sym n),
+          (
+            (k .1 .0 ∙ p .1 .1 .1 .1 .0 ∙ sym n, k .1 .1 .0 ∙ p .1 .1 .1 .1 .1 ∙ sym n),
+            strip-most (a .right) _ _ n (c .before .before .before .before .before .before .before .before .before .before .draw-span .ensures .painted) (λ i. below-sample l (a .from .column + 1) (edgeRight (a .from)) (a .start + i)),
+          ),
         ),
       ),
     )

@@ -8,7 +8,7 @@ use Rattle.vectors.proofs.play.Statement.{statement}
 use Rattle.vectors.proofs.play.Tie as tie
 
 abbrev Inv-loop : tie.InvT-loop
-Inv-loop start end texture reference leftDepths₀ rightDepths₀ leftSamples₀ leftFronts₀ leftLimits₀ leftMarks₀ rightSamples₀ rightFronts₀ rightLimits₀ rightMarks₀ combined₀ now₀ i₀ leftDepths rightDepths leftSamples leftFronts leftLimits leftMarks rightSamples rightFronts rightLimits rightMarks combined now i =
+Inv-loop start end firstLeft firstRight firstReference left right reference leftDepths₀ rightDepths₀ leftSamples₀ leftFronts₀ leftLimits₀ leftMarks₀ rightSamples₀ rightFronts₀ rightLimits₀ rightMarks₀ combined₀ now₀ i₀ leftDepths rightDepths leftSamples leftFronts leftLimits leftMarks rightSamples rightFronts rightLimits rightMarks combined now i =
     (length leftDepths ≡ length leftDepths₀)
     × (length rightDepths ≡ length rightDepths₀)
     × (length leftSamples ≡ length leftSamples₀)
@@ -22,11 +22,11 @@ Inv-loop start end texture reference leftDepths₀ rightDepths₀ leftSamples₀
     × (length combined ≡ length combined₀)
 
 abbrev μ-loop : tie.MeasureT-loop
-μ-loop start end texture reference leftDepths₀ rightDepths₀ leftSamples₀ leftFronts₀ leftLimits₀ leftMarks₀ rightSamples₀ rightFronts₀ rightLimits₀ rightMarks₀ combined₀ now₀ i₀ leftDepths rightDepths leftSamples leftFronts leftLimits leftMarks rightSamples rightFronts rightLimits rightMarks combined now i =
+μ-loop start end firstLeft firstRight firstReference left right reference leftDepths₀ rightDepths₀ leftSamples₀ leftFronts₀ leftLimits₀ leftMarks₀ rightSamples₀ rightFronts₀ rightLimits₀ rightMarks₀ combined₀ now₀ i₀ leftDepths rightDepths leftSamples leftFronts leftLimits leftMarks rightSamples rightFronts rightLimits rightMarks combined now i =
     end - i
 
 add-i : tie.Need-add-i Inv-loop μ-loop
-add-i c = omega (arith, c .before .before .before .before .before .before .before .before .before .before .before .before .before .before .before .before .before .before .before .before .before .before .before .before .before .before .before .before .before .before .before .before .before .loop-test .taken, c .before .before .before .before .before .before .before .before .before .before .before .before .before .before .before .before .before .before .before .before .before .before .before .before .before .before .before .before .before .before .before .before .before .before .before .before .before .before .before .before .before .before .before .before .before .before .before .before .before .before .before .before .before .before .before .before .before .before .before .before .before .before .before .before .before .before .before .before .before .before .before .before .before .before .fits)
+add-i c = omega (arith, c .before .before .before .before .before .before .before .before .before .before .before .before .before .before .before .before .before .before .before .before .before .before .before .before .before .before .before .before .before .before .before .before .before .loop-test .taken, c .before .before .before .before .before .before .before .before .before .before .before .before .before .before .before .before .before .before .before .before .before .before .before .before .before .before .before .before .before .before .before .before .before .before .before .before .before .before .before .before .before .before .before .before .before .before .before .before .before .before .before .before .before .before .before .before .before .before .before .before .before .before .before .before .before .before .before .before .before .before .before .before .before .before .before .before .before .before .fits)
 
 loop-less : tie.Need-loop-less Inv-loop μ-loop
 loop-less c = omega (arith, c .before .before .before .before .before .before .before .before .before .before .before .before .before .before .before .before .before .before .before .before .before .before .before .before .before .before .before .before .before .before .before .before .before .loop-test .taken)

@@ -8,9 +8,9 @@ pub const SIDE: u32 = 8;
 /// How far around a block depths are looked for.
 const REACH: u32 = 16;
 
-/// What it costs to send one depth, or two and a line, for a block, in the unit of the total.
-const FLAT: i64 = 500;
-const SPLIT: i64 = 1000;
+/// What it costs to send one depth, or two and a line, for a block: so many of them cost as much as the greatest squared error.
+const FLATS: i64 = 130;
+const SPLITS: i64 = 65;
 
 /// What a pass over one view did.
 #[derive(Default)]
@@ -20,13 +20,15 @@ pub struct Pass {
     pub change: i64,
 }
 
-/// Goes over the blocks of one view by rows. `progress` is told how many of how many blocks are done.
-pub fn pass(session: &mut Session, view: View, mut progress: impl FnMut(usize, usize)) -> Result<Pass, Refusal> {
+/// Goes over the blocks of one view by rows. The pictures have samples up to `largest`; `progress` is told how many of how many
+/// blocks are done.
+pub fn pass(session: &mut Session, view: View, largest: u16, mut progress: impl FnMut(usize, usize)) -> Result<Pass, Refusal> {
+    let worst = i64::from(largest).pow(2);
     let blocks = blocks(session.settings().w, session.settings().h);
     let mut pass = Pass::default();
     for (done, &block) in blocks.iter().enumerate() {
         progress(done, blocks.len());
-        let mut trials = Trials { session, view, block, made: 0 };
+        let mut trials = Trials { session, view, block, flat_cost: worst / FLATS, split_cost: worst / SPLITS, made: 0 };
         let (cost, candidate) = trials.best()?;
         pass.trials += trials.made;
         if cost < 0 {
@@ -53,6 +55,8 @@ struct Trials<'a> {
     session: &'a Session,
     view: View,
     block: Block,
+    flat_cost: i64,
+    split_cost: i64,
     made: u64,
 }
 
@@ -61,7 +65,7 @@ impl Trials<'_> {
     fn best(&mut self) -> Result<(i64, Vec<u8>), Refusal> {
         let mut flats = Vec::new();
         for depth in self.depths() {
-            flats.push((self.change(&self.flat(depth))? + FLAT, depth));
+            flats.push((self.change(&self.flat(depth))? + self.flat_cost, depth));
         }
         flats.sort();
         let (mut least, depth) = flats[0];
@@ -71,7 +75,7 @@ impl Trials<'_> {
             for &first in &depths {
                 for &second in depths.iter().filter(|&&second| second != first) {
                     let candidate = self.split(line, first, second);
-                    let cost = self.change(&candidate)? + SPLIT;
+                    let cost = self.change(&candidate)? + self.split_cost;
                     if cost < least {
                         (least, best) = (cost, candidate);
                     }

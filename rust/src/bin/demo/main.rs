@@ -5,7 +5,8 @@ mod encoder;
 mod pgm;
 mod scene;
 
-use luphwezane::{Pictures, Report, Session, Settings, View};
+use luphwezane::{Pictures, Report, Session, Settings, View, GREATEST_SAMPLE};
+use pgm::Picture;
 use std::io::{IsTerminal, Write};
 use std::path::{Path, PathBuf};
 use std::process::ExitCode;
@@ -14,7 +15,8 @@ const HELP: &str = "\
 usage: demo [--out FOLDER] [--disparity QUARTERS] [LEFT RIGHT REFERENCE LEFT-DEPTH RIGHT-DEPTH]
 
 Improves two depth maps block by block and writes PGM pictures of what became of it to FOLDER (target/demo).
-Without files it makes a scene of its own. With files, PGM pictures of one size with 8-bit samples:
+Without files it makes a scene of its own. With files, PGM pictures of one size; the first three have the same largest value, 1,023 at
+most, and the depth maps 255 at most:
 
   LEFT, RIGHT               what the two cameras saw
   REFERENCE                 what is to be seen from between them
@@ -55,15 +57,18 @@ struct Input {
     name: &'static str,
     w: usize,
     h: usize,
-    textures: [Vec<u8>; 2],
-    reference: Vec<u8>,
+    /// What the samples of the pictures go up to.
+    largest: u16,
+    textures: [Vec<u16>; 2],
+    reference: Vec<u16>,
     depths: [Vec<u8>; 2],
 }
 
 fn made(disparity: u16) -> Input {
     let scene = scene::made(320, 192, &scene::table(disparity));
-    let depths = scene.depths.map(|depths| scene::coarse(&depths, scene.w, scene.h, 16));
-    Input { name: "a made scene", w: scene.w, h: scene.h, textures: scene.textures, reference: scene.reference, depths }
+    let depths = scene.depths.each_ref().map(|depths| scene::coarse(depths, scene.w, scene.h, 16));
+    let scene::Scene { w, h, textures, reference, .. } = scene;
+    Input { name: "a made scene", w, h, largest: GREATEST_SAMPLE, textures, reference, depths }
 }
 
 fn read(files: &[PathBuf]) -> Result<Input, String> {
@@ -75,9 +80,26 @@ fn read(files: &[PathBuf]) -> Result<Input, String> {
             return Err(format!("{file} is {} × {}, but {first} is {w} × {h}: all five must have one size", picture.w, picture.h));
         }
     }
+    let largest = pictures[0].largest;
+    for (file, picture) in files.iter().zip(&pictures).take(3) {
+        if picture.largest != largest {
+            let (file, first) = (file.display(), files[0].display());
+            let what = format!("{file} has samples up to {}, but {first} up to {largest}", picture.largest);
+            return Err(format!("{what}: left, right and reference must have one largest value"));
+        }
+    }
+    let depths = [depths(&files[3], &pictures[3])?, depths(&files[4], &pictures[4])?];
     let mut planes = pictures.into_iter().map(|picture| picture.samples);
     let mut next = || planes.next().expect("there are five files");
-    Ok(Input { name: "pictures from files", w, h, textures: [next(), next()], reference: next(), depths: [next(), next()] })
+    Ok(Input { name: "pictures from files", w, h, largest, textures: [next(), next()], reference: next(), depths })
+}
+
+/// The depths of a depth map.
+fn depths(file: &Path, map: &Picture) -> Result<Vec<u8>, String> {
+    match map.largest {
+        0..=255 => Ok(map.samples.iter().map(|&depth| depth as u8).collect()),
+        largest => Err(format!("{} has samples up to {largest}: depths up to 255 are taken", file.display())),
+    }
 }
 
 fn main() -> ExitCode {
@@ -109,15 +131,16 @@ fn run(options: &Options) -> Result<(), String> {
     println!("Luphwezane: {}, {} × {}, blocks of {} × {}", input.name, input.w, input.h, encoder::SIDE, encoder::SIDE);
     println!();
     print_line(["step", "trials", "blocks set", "change of total", "total", "PSNR"]);
-    print_line(["open", "", "", "", &thousands(session.total() as i64), &psnr(&session)]);
-    write_inputs(&options.out, &session)?;
-    write_outputs(&options.out, "before", &session)?;
+    let largest = input.largest;
+    print_line(["open", "", "", "", &thousands(session.total() as i64), &psnr(&session, largest)]);
+    write_inputs(&options.out, &session, largest)?;
+    write_outputs(&options.out, "before", &session, largest)?;
     for round in 1..=2 {
         for view in View::BOTH {
-            improve(&mut session, view, round)?;
+            improve(&mut session, view, largest, round)?;
         }
     }
-    write_outputs(&options.out, "after", &session)?;
+    write_outputs(&options.out, "after", &session, largest)?;
 
     let report = session.check();
     println!();
@@ -131,13 +154,13 @@ fn run(options: &Options) -> Result<(), String> {
 }
 
 /// One pass over a view, and its line of the table.
-fn improve(session: &mut Session, view: View, round: u32) -> Result<(), String> {
+fn improve(session: &mut Session, view: View, largest: u16, round: u32) -> Result<(), String> {
     let name = format!("{}, round {round}", if view == View::Left { "left" } else { "right" });
     let mut progress = Progress::new(&name);
-    let pass = encoder::pass(session, view, |done, all| progress.show(done, all)).map_err(|refusal| refusal.to_string())?;
+    let pass = encoder::pass(session, view, largest, |done, all| progress.show(done, all)).map_err(|refusal| refusal.to_string())?;
     progress.clear();
     let cells = [pass.trials as i64, pass.blocks as i64, pass.change, session.total() as i64].map(thousands);
-    print_line([&name, &cells[0], &cells[1], &cells[2], &cells[3], &psnr(session)]);
+    print_line([&name, &cells[0], &cells[1], &cells[2], &cells[3], &psnr(session, largest)]);
     Ok(())
 }
 
@@ -191,44 +214,46 @@ fn thousands(number: i64) -> String {
 }
 
 /// The peak signal-to-noise ratio of the combined picture.
-fn psnr(session: &Session) -> String {
+fn psnr(session: &Session, largest: u16) -> String {
     match session.total() {
         0 => "exact".into(),
         total => {
             let area = session.planes().combined.len() as f64;
-            format!("{:.2} dB", 10.0 * (65025.0 * area / total as f64).log10())
+            format!("{:.2} dB", 10.0 * (f64::from(largest).powi(2) * area / total as f64).log10())
         }
     }
 }
 
 /// What a session was opened with, so that it can be repeated from files.
-fn write_inputs(out: &Path, session: &Session) -> Result<(), String> {
+fn write_inputs(out: &Path, session: &Session, largest: u16) -> Result<(), String> {
     let pictures = session.pictures();
-    picture(out, "left", session, pictures.textures[0])?;
-    picture(out, "right", session, pictures.textures[1])?;
-    picture(out, "reference", session, pictures.reference)
+    write(out, "left", session, largest, pictures.textures[0])?;
+    write(out, "right", session, largest, pictures.textures[1])?;
+    write(out, "reference", session, largest, pictures.reference)
 }
 
 /// The combined picture, each view's holes (white), the errors (four times as large) and the depths.
-fn write_outputs(out: &Path, when: &str, session: &Session) -> Result<(), String> {
+fn write_outputs(out: &Path, when: &str, session: &Session, largest: u16) -> Result<(), String> {
     let (planes, reference) = (session.planes(), session.pictures().reference);
-    picture(out, &format!("combined-{when}"), session, planes.combined)?;
-    let errors: Vec<u8> = planes.combined.iter().zip(reference).map(|(a, b)| a.abs_diff(*b).saturating_mul(4)).collect();
-    picture(out, &format!("errors-{when}"), session, &errors)?;
+    write(out, &format!("combined-{when}"), session, largest, planes.combined)?;
+    let errors: Vec<u16> = planes.combined.iter().zip(reference).map(|(a, b)| 4 * a.abs_diff(*b)).collect();
+    write(out, &format!("errors-{when}"), session, largest, &errors)?;
     for (view, name) in View::BOTH.into_iter().zip(["left", "right"]) {
-        picture(out, &format!("holes-{name}-{when}"), session, &holes(session, view))?;
-        picture(out, &format!("depth-{name}-{when}"), session, planes.depths[view as usize])?;
+        let depths: Vec<u16> = planes.depths[view as usize].iter().map(|&depth| depth.into()).collect();
+        write(out, &format!("holes-{name}-{when}"), session, 255, &holes(session, view))?;
+        write(out, &format!("depth-{name}-{when}"), session, 255, &depths)?;
     }
     Ok(())
 }
 
-fn holes(session: &Session, view: View) -> Vec<u8> {
+fn holes(session: &Session, view: View) -> Vec<u16> {
     let Settings { w, h, .. } = *session.settings();
     let places = (0..h).flat_map(|y| (0..w).map(move |x| (x, y)));
     places.map(|(x, y)| if session.is_hole(view, x, y) { 255 } else { 0 }).collect()
 }
 
-fn picture(out: &Path, name: &str, session: &Session, samples: &[u8]) -> Result<(), String> {
+/// Writes a plane of the session's size as a picture of samples up to `largest`.
+fn write(out: &Path, name: &str, session: &Session, largest: u16, samples: &[u16]) -> Result<(), String> {
     let Settings { w, h, .. } = *session.settings();
-    pgm::write(&out.join(format!("{name}.pgm")), w as usize, h as usize, samples)
+    pgm::write(&out.join(format!("{name}.pgm")), w as usize, h as usize, largest, samples)
 }

@@ -1,13 +1,13 @@
 //! A made scene: a wall and a floor with a ball, a box, a pole and a sign in front of them, seen by two cameras and from
-//! the place between them. All numbers are whole, so that it is the same everywhere.
+//! the place between them, in samples of ten bits. All numbers are whole, so that it is the same everywhere.
 #![allow(dead_code)] // each program uses its own part
 
 /// Two textures with their depths, and what is seen from between.
 pub struct Scene {
     pub w: usize,
     pub h: usize,
-    pub textures: [Vec<u8>; 2],
-    pub reference: Vec<u8>,
+    pub textures: [Vec<u16>; 2],
+    pub reference: Vec<u16>,
     pub depths: [Vec<u8>; 2],
 }
 
@@ -19,7 +19,7 @@ pub fn table(largest: u16) -> [u16; 256] {
 /// The scene at w × h for these disparities.
 pub fn made(w: usize, h: usize, table: &[u16; 256]) -> Scene {
     let stage = Stage { w: w as i32, h: h as i32, table };
-    let draw = |side: i32, seed: u32| -> (Vec<u8>, Vec<u8>) {
+    let draw = |side: i32, seed: u32| -> (Vec<u16>, Vec<u8>) {
         let places = (0..h as i32).flat_map(|y| (0..w as i32).map(move |x| (x, y)));
         places.map(|(x, y)| stage.seen(side, seed, x, y)).unzip()
     };
@@ -60,13 +60,13 @@ const THINGS: [Thing; 5] = [Thing::Pole, Thing::Ball, Thing::Box, Thing::Sign, T
 
 impl Stage<'_> {
     /// Sample and depth at column x of row y: side −1 is the left camera, 1 the right, 0 the place between.
-    fn seen(&self, side: i32, seed: u32, x: i32, y: i32) -> (u8, u8) {
+    fn seen(&self, side: i32, seed: u32, x: i32, y: i32) -> (u16, u8) {
         for thing in THINGS {
             let depth = self.depth(thing, y);
             let quarters = 4 * x + side * i32::from(self.table[usize::from(depth)]);
             if self.covers(thing, quarters, y) {
-                let grain = (hash(x, y, seed) % 5) as i32 - 2;
-                return ((self.sample(thing, quarters, y) + grain).clamp(0, 255) as u8, depth);
+                let grain = (hash(x, y, seed) % 17) as i32 - 8;
+                return ((self.sample(thing, quarters, y) + grain).clamp(0, 1023) as u16, depth);
             }
         }
         unreachable!("the ground is everywhere");
@@ -104,27 +104,27 @@ impl Stage<'_> {
         let (x, t) = self.stage(quarters, y);
         let rough = noise(quarters, 4 * y, 24, 11) / 5 + noise(quarters, 4 * y, 10, 12) / 10;
         match thing {
-            Thing::Pole => 200 + rough / 2 - wave(t, 14) / 6,
-            Thing::Ball => 90 + rough + 110 - ((x - 4 * 100).pow(2) + (4 * (t - 96)).pow(2)) / 480,
-            Thing::Box => 70 + rough + wave(x, 4 * 22) / 3,
-            Thing::Sign => 150 + rough + wave(x + 4 * t, 4 * 16) / 6,
+            Thing::Pole => 800 + rough / 2 - wave(t, 14) / 6,
+            Thing::Ball => 800 + rough - ((x - 4 * 100).pow(2) + (4 * (t - 96)).pow(2)) / 120,
+            Thing::Box => 120 + rough + wave(x, 4 * 22) / 2,
+            Thing::Sign => 600 + rough + wave(x + 4 * t, 4 * 16) / 6,
             Thing::Ground if t < 120 => 60 + rough + wave(x, 4 * 50) / 6 + wave(t, 40) / 8,
-            Thing::Ground => 50 + rough + (t - 120) / 2 + wave(x + 2 * t, 4 * 34) / 5,
+            Thing::Ground => rough - 40 + 2 * (t - 120) + wave(x + 2 * t, 4 * 34) / 5,
         }
     }
 }
 
-/// A triangle wave, 0 to 255.
+/// A triangle wave, 0 to 1,023.
 fn wave(x: i32, period: i32) -> i32 {
     let at = x.rem_euclid(period);
-    at.min(period - at) * 510 / period
+    at.min(period - at) * 2046 / period
 }
 
-/// Noise that is smooth between the points of a grid, 0 to 255.
+/// Noise that is smooth between the points of a grid, 0 to 1,023.
 fn noise(x: i32, y: i32, step: i32, seed: u32) -> i32 {
     let (column, row) = (x.div_euclid(step), y.div_euclid(step));
     let (right, down) = (x.rem_euclid(step), y.rem_euclid(step));
-    let at = |c: i32, r: i32| (hash(c, r, seed) & 255) as i32;
+    let at = |c: i32, r: i32| (hash(c, r, seed) & 1023) as i32;
     let top = at(column, row) * (step - right) + at(column + 1, row) * right;
     let bottom = at(column, row + 1) * (step - right) + at(column + 1, row + 1) * right;
     (top * (step - down) + bottom * down) / (step * step)

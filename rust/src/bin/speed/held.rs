@@ -3,12 +3,13 @@
 //! tables.
 
 use crate::scene::Scene;
-use luphwezane::{Block, Pictures, Planes, PlanesMut, Settings};
+use luphwezane::{Block, Pictures, Planes, PlanesMut, Settings, GREATEST_SAMPLE};
 
-pub const SQUARES: [u32; 256] = {
-    let mut table = [0; 256];
+/// Entry i is i × i.
+static SQUARES: [u32; 1024] = {
+    let mut table = [0; 1024];
     let mut i = 0;
-    while i < 256 {
+    while i < 1024 {
         table[i] = (i * i) as u32;
         i += 1;
     }
@@ -22,15 +23,15 @@ pub struct Held {
     pub h: usize,
     pub tables: [[u16; 256]; 2],
     pub share: u32,
-    pub tolerance: u8,
-    pub textures: [Vec<u8>; 2],
-    pub reference: Vec<u8>,
+    pub tolerance: u32,
+    pub textures: [Vec<u16>; 2],
+    pub reference: Vec<u16>,
     pub depths: [Vec<u8>; 2],
-    pub samples: [Vec<u8>; 2],
+    pub samples: [Vec<u16>; 2],
     pub fronts: [Vec<u8>; 2],
     pub limits: [Vec<i16>; 2],
     pub marks: [Vec<u8>; 2],
-    pub combined: Vec<u8>,
+    pub combined: Vec<u16>,
     pub total: u64,
 }
 
@@ -38,18 +39,17 @@ impl Held {
     /// Empty planes for a scene.
     pub fn new(settings: &Settings, scene: &Scene) -> Held {
         let (w, h) = (scene.w, scene.h);
-        let bytes = || [vec![0; w * h], vec![0; w * h]];
         Held {
             w,
             h,
             tables: [settings.left, settings.right],
             share: u32::from(settings.share),
-            tolerance: settings.tolerance,
+            tolerance: u32::from(settings.tolerance),
             textures: scene.textures.clone(),
             reference: scene.reference.clone(),
             depths: scene.depths.clone(),
-            samples: bytes(),
-            fronts: bytes(),
+            samples: [vec![0; w * h], vec![0; w * h]],
+            fronts: [vec![0; w * h], vec![0; w * h]],
             limits: [vec![0; w * h], vec![0; w * h]],
             marks: [vec![0; w.div_ceil(8) * h], vec![0; w.div_ceil(8) * h]],
             combined: vec![0; w * h],
@@ -97,34 +97,40 @@ impl Held {
     }
 }
 
-/// What a view shows at a position.
+/// A sample as it is read: a higher one is the greatest.
+#[inline(always)]
+pub fn read(entry: u16) -> u32 {
+    u32::from(entry.min(GREATEST_SAMPLE))
+}
+
+/// What a view shows at a position. It is wider than it need be: a pixel that fits a word is packed and taken apart again.
 #[derive(Clone, Copy)]
 pub struct Pixel {
-    pub sample: u8,
+    pub sample: u32,
+    pub front: u32,
     pub hole: bool,
-    pub front: u8,
 }
 
 /// A column, its right neighbour as the view reads the row, their gap in quarters, and the samples around them.
 #[derive(Clone, Copy)]
-pub struct Pair {
-    pub window: [u8; 8],
+pub struct Pair<'a, const RIGHT: bool> {
+    pub window: &'a Window,
     pub depths: [u8; 2],
     pub gap: i32,
     pub last: bool,
 }
 
-impl Pair {
+impl<const RIGHT: bool> Pair<'_, RIGHT> {
     /// What the pair shows t quarters from its place.
     #[inline(always)]
     pub fn pixel(&self, t: i32) -> Pixel {
         if !self.last && self.gap <= 8 {
             let (t, gap) = (t as u32, self.gap as u32);
             let k = (8 * t + gap) / (2 * gap);
-            return Pixel { sample: filtered(self.window, k), hole: false, front: self.depths[0] };
+            return Pixel { sample: filtered::<RIGHT>(self.window, k as usize), hole: false, front: u32::from(self.depths[0]) };
         }
-        let far = usize::from(t > 1);
-        Pixel { sample: self.window[3 + far], hole: t > 1, front: self.depths[far] }
+        let far = t > 1;
+        Pixel { sample: read(self.window[if far == RIGHT { 3 } else { 4 }]), hole: far, front: u32::from(self.depths[usize::from(far)]) }
     }
 }
 
@@ -135,32 +141,36 @@ pub fn near_edge(limit: i32, next: i32) -> bool {
     limit & 3 == 1 && next > limit
 }
 
-/// The samples of columns c − 3 to c + 4 as the view reads the row, ends repeated, of a column c at entry `at`. The column's
-/// own is entry 3, its right neighbour's entry 4; the last column is its own neighbour.
+/// The samples around a pair, in the order in which the row is stored: of columns c − 3 to c + 4 for the left view, of c + 4 to
+/// c − 3 for the right.
+pub type Window = [u16; 8];
+
+/// The window of the column at entry `at`: a part of the row, or, where it passes an end, `own`, in which ends are repeated. The
+/// column's own sample is entry 3, or 4 in the right view, and the other of these is its neighbour's; the last column is its own
+/// neighbour.
 #[inline(always)]
-pub fn window<const RIGHT: bool>(texture: &[u8], at: usize) -> [u8; 8] {
+pub fn window<'a, const RIGHT: bool>(texture: &'a [u16], at: usize, own: &'a mut Window) -> &'a Window {
     let before = if RIGHT { 4 } else { 3 };
     let first = at.wrapping_sub(before);
-    let mut window = match texture.get(first..first.wrapping_add(8)) {
+    match texture.get(first..first.wrapping_add(8)) {
         Some(inside) => inside.try_into().expect("there are eight"),
-        None => end_window(texture, at, before),
-    };
-    if RIGHT {
-        window.reverse();
+        None => {
+            *own = end_window(texture, at, before);
+            own
+        }
     }
-    window
 }
 
 /// Kept out of the loops, which seldom come to an end of the row.
 #[cold]
 #[inline(never)]
-fn end_window(texture: &[u8], at: usize, before: usize) -> [u8; 8] {
+fn end_window(texture: &[u16], at: usize, before: usize) -> Window {
     std::array::from_fn(|i| texture[(at + i).saturating_sub(before).min(texture.len() - 1)])
 }
 
-/// The H.265 luma filters of k = 1, 2 and 3; k of 0 and 4 are plain samples.
+/// The H.265 luma filters of k = 1, 2 and 3; k of 0 and 4 are plain samples. Those of k, read backwards, are those of 4 − k.
 #[rustfmt::skip]
-const TAPS: [[i64; 8]; 5] = [
+static TAPS: [[i16; 8]; 5] = [
     [ 0, 0,   0, 64,  0,   0, 0,  0],
     [-1, 4, -10, 58, 17,  -5, 1,  0],
     [-1, 4, -11, 40, 40, -11, 4, -1],
@@ -168,39 +178,23 @@ const TAPS: [[i64; 8]; 5] = [
     [ 0, 0,   0,  0, 64,   0, 0,  0],
 ];
 
-/// Of each filter the taps of even entries as one number and those of odd ones as another, 16 bits a tap, the first highest.
-const FACTORS: [[i64; 2]; 5] = {
-    let mut factors = [[0; 2]; 5];
-    let mut i = 0;
-    while i < 40 {
-        let (k, entry) = (i / 8, i % 8);
-        factors[k][entry % 2] += TAPS[k][entry] << (48 - entry / 2 * 16);
-        i += 1;
-    }
-    factors
-};
-
-/// The sample of a smooth pair. Four samples, 16 bits each and the first lowest, times four taps give the sum of the four
-/// products in the highest 16 bits: two multiplications do for eight. What stands below is less than half a unit there
-/// either way, and half a unit more keeps it from borrowing.
+/// The sample of a smooth pair. Products of eight numbers of 16 bits that are added up in 32 have an instruction of their own,
+/// which the compiler finds where the window is still in the row.
 #[inline(always)]
-fn filtered(window: [u8; 8], k: u32) -> u8 {
+fn filtered<const RIGHT: bool>(window: &Window, k: usize) -> u32 {
     if k == 0 {
-        return window[3];
+        return read(window[if RIGHT { 4 } else { 3 }]);
     }
-    let (word, bytes) = (u64::from_le_bytes(window), 0x00ff_00ff_00ff_00ff);
-    let [even, odd] = FACTORS[k as usize];
-    let (evens, odds) = ((word & bytes) as i64, (word >> 8 & bytes) as i64);
-    let sum = evens.wrapping_mul(even).wrapping_add(odds.wrapping_mul(odd)).wrapping_add((32 << 48) + (1 << 47));
-    (sum >> (48 + 6)).clamp(0, 255) as u8
+    let taps = &TAPS[if RIGHT { 4 - k } else { k }];
+    let product = |(&entry, &tap): (&u16, &i16)| i32::from(read(entry) as i16) * i32::from(tap);
+    let sum: i32 = window.iter().zip(taps).map(product).sum();
+    ((sum + 32) >> 6).clamp(0, i32::from(GREATEST_SAMPLE)) as u32
 }
 
 #[inline(always)]
-pub fn combine(share: u32, tolerance: u8, left: Pixel, right: Pixel) -> u8 {
+pub fn combine(share: u32, tolerance: u32, left: Pixel, right: Pixel) -> u32 {
     match (left.hole, right.hole) {
-        (false, false) if left.front.abs_diff(right.front) <= tolerance => {
-            ((u32::from(left.sample) * (64 - share) + u32::from(right.sample) * share + 32) / 64) as u8
-        }
+        (false, false) if left.front.abs_diff(right.front) <= tolerance => (left.sample * (64 - share) + right.sample * share + 32) / 64,
         (false, false) if left.front > right.front => left.sample,
         (false, true) => left.sample,
         (true, true) if left.front <= right.front => left.sample,
@@ -208,9 +202,10 @@ pub fn combine(share: u32, tolerance: u8, left: Pixel, right: Pixel) -> u8 {
     }
 }
 
+/// The squared difference of two samples, both at most the greatest; the mask spares a test of the index.
 #[inline(always)]
-pub fn square(a: u8, b: u8) -> u32 {
-    SQUARES[usize::from(a.abs_diff(b))]
+pub fn square(a: u32, b: u32) -> u32 {
+    SQUARES[a.abs_diff(b) as usize & 1023]
 }
 
 /// The first position at or after a place.
@@ -231,29 +226,51 @@ pub fn seen<const RIGHT: bool>(w: usize, i: usize) -> usize {
 
 #[cfg(test)]
 mod tests {
-    use super::{filtered, window, TAPS};
+    use super::{filtered, square, window, TAPS};
 
-    /// Black and white have the greatest sums: where they do not spill over, no others do.
+    /// The filters over black and white, which have the greatest sums, as each view reads the row.
     #[test]
-    fn two_multiplications_do_for_eight() {
+    fn sums_are_held_to_ten_bits() {
         for (k, taps) in TAPS.iter().enumerate() {
             for bits in 0..256 {
-                let window = std::array::from_fn(|i| if bits >> i & 1 == 1 { 255 } else { 0 });
-                let sum: i64 = window.iter().zip(taps).map(|(&sample, tap)| i64::from(sample) * tap).sum();
-                assert_eq!(i64::from(filtered(window, k as u32)), (sum + 32).div_euclid(64).clamp(0, 255), "{window:?}, k = {k}");
+                let window: [u16; 8] = std::array::from_fn(|i| if bits >> i & 1 == 1 { 1023 } else { 0 });
+                let sum: i64 = window.iter().zip(taps).map(|(&sample, &tap)| i64::from(sample) * i64::from(tap)).sum();
+                let expected = (sum + 32).div_euclid(64).clamp(0, 1023);
+                assert_eq!(i64::from(filtered::<false>(&window, k)), expected, "{window:?}, k = {k}");
+                let mut backwards = window;
+                backwards.reverse();
+                assert_eq!(i64::from(filtered::<true>(&backwards, k)), expected, "{backwards:?}, k = {k}");
             }
         }
     }
 
     #[test]
     fn ends_are_repeated() {
-        let row: Vec<u8> = (0..10).collect();
-        assert_eq!(window::<false>(&row, 3), [0, 1, 2, 3, 4, 5, 6, 7]);
-        assert_eq!(window::<false>(&row, 2), [0, 0, 1, 2, 3, 4, 5, 6]);
-        assert_eq!(window::<false>(&row, 9), [6, 7, 8, 9, 9, 9, 9, 9]);
-        assert_eq!(window::<true>(&row, 4), [7, 6, 5, 4, 3, 2, 1, 0]);
-        assert_eq!(window::<true>(&row, 9), [9, 9, 9, 9, 8, 7, 6, 5]);
-        assert_eq!(window::<true>(&row, 0), [3, 2, 1, 0, 0, 0, 0, 0]);
-        assert_eq!(window::<false>(&row[5..7], 1), [5, 5, 5, 6, 6, 6, 6, 6]);
+        let row: Vec<u16> = (0..10).collect();
+        let left = |row: &[u16], at: usize| *window::<false>(row, at, &mut [0; 8]);
+        let right = |row: &[u16], at: usize| *window::<true>(row, at, &mut [0; 8]);
+        assert_eq!(left(&row, 3), [0, 1, 2, 3, 4, 5, 6, 7]);
+        assert_eq!(left(&row, 2), [0, 0, 1, 2, 3, 4, 5, 6]);
+        assert_eq!(left(&row, 9), [6, 7, 8, 9, 9, 9, 9, 9]);
+        assert_eq!(right(&row, 4), [0, 1, 2, 3, 4, 5, 6, 7]);
+        assert_eq!(right(&row, 9), [5, 6, 7, 8, 9, 9, 9, 9]);
+        assert_eq!(right(&row, 0), [0, 0, 0, 0, 0, 1, 2, 3]);
+        assert_eq!(left(&row[5..7], 1), [5, 5, 5, 6, 6, 6, 6, 6]);
+    }
+
+    #[test]
+    fn higher_samples_are_the_greatest() {
+        let (high, white) = ([0, 1022, 1024, 65535, 1025, 1023, 32768, 2047], [0, 1022, 1023, 1023, 1023, 1023, 1023, 1023]);
+        for k in 0..5 {
+            assert_eq!(filtered::<false>(&high, k), filtered::<false>(&white, k), "k = {k}");
+            assert_eq!(filtered::<true>(&high, k), filtered::<true>(&white, k), "k = {k}");
+        }
+    }
+
+    #[test]
+    fn squares() {
+        for a in 0..=1023 {
+            assert_eq!((square(a, 0), square(1023, a)), (a.pow(2), (1023 - a).pow(2)));
+        }
     }
 }

@@ -93,9 +93,9 @@ impl Stage {
     /// The same picture several times side by side.
     fn repeated(&self, times: usize) -> Stage {
         let Scene { w, h, textures, reference, depths } = &self.scene;
-        let wide = |plane: &Vec<u8>| plane.chunks(*w).flat_map(|row| row.repeat(times)).collect::<Vec<u8>>();
-        let (textures, depths) = (textures.each_ref().map(wide), depths.each_ref().map(wide));
-        let scene = Scene { w: w * times, h: *h, textures, reference: wide(reference), depths };
+        let textures = textures.each_ref().map(|plane| repeated(plane, *w, times));
+        let depths = depths.each_ref().map(|plane| repeated(plane, *w, times));
+        let scene = Scene { w: w * times, h: *h, textures, reference: repeated(reference, *w, times), depths };
         Stage { settings: Settings { w: scene.w as u32, ..self.settings }, scene }
     }
 
@@ -118,6 +118,11 @@ impl Stage {
         let candidates = candidates.collect();
         Trials { view, block: Block { column: column as u32, row: row as u32, width: side as u32, height: side as u32 }, candidates }
     }
+}
+
+/// A plane with every row of w entries several times side by side.
+fn repeated<T: Copy>(plane: &[T], w: usize, times: usize) -> Vec<T> {
+    plane.chunks(w).flat_map(|row| row.repeat(times)).collect()
 }
 
 /// A small generator, the same in every run.
@@ -315,4 +320,47 @@ fn growth(sessions: &[Session], blocks: &[Trials], rounds: usize, base: usize) -
         }
     }
     ratios.into_iter().map(median).zip(answers).collect()
+}
+
+#[cfg(test)]
+mod tests {
+    use super::{Random, Redraw, Span, Stage};
+    use crate::held::Held;
+    use luphwezane::lent;
+
+    /// Every sample of 1,023, of the pictures and of what is held, made higher.
+    fn raise(held: &mut Held) {
+        let planes = held.textures.iter_mut().chain(&mut held.samples).chain([&mut held.reference, &mut held.combined]);
+        let raised = planes.flatten().filter(|entry| **entry == 1023).enumerate();
+        raised.for_each(|(k, entry)| *entry = [1024, 65535, 32768][k % 3]);
+    }
+
+    /// All three read a higher sample as 1,023: their answers stay those of the session.
+    #[test]
+    fn higher_samples_change_no_answer() {
+        let mut stage = Stage::new(160, 48, 96);
+        let scene = &mut stage.scene;
+        for picture in scene.textures.iter_mut().chain([&mut scene.reference]) {
+            picture.iter_mut().filter(|entry| **entry % 3 == 0).for_each(|entry| *entry = 1023);
+        }
+        let (mut session, settings) = (stage.session(), &stage.settings);
+        let (mut span, mut redraw) = (Span::open(settings, &stage.scene), Redraw::open(settings, &stage.scene));
+        let random = &mut Random(1);
+        for _ in 0..60 {
+            let trials = stage.trials(8, 4, 60, random);
+            let (view, block) = (trials.view, trials.block);
+            raise(&mut span.held);
+            raise(&mut redraw.held);
+            for candidate in &trials.candidates {
+                let change = session.get(view, block, candidate).expect("GET accepts it");
+                assert_eq!(span.get(view as usize, block, candidate), change);
+                assert_eq!(redraw.get(view as usize, block, candidate), change);
+                let (pictures, planes) = span.held.lent();
+                assert_eq!(lent::get(session.settings(), &pictures, &planes.shared(), view as u32, block, candidate), Ok(change));
+            }
+            let change = session.set(view, block, &trials.candidates[0]).expect("SET accepts it");
+            assert_eq!(span.set(view as usize, block, &trials.candidates[0]), change);
+            assert_eq!(redraw.set(view as usize, block, &trials.candidates[0]), change);
+        }
+    }
 }

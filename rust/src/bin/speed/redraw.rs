@@ -1,7 +1,7 @@
 //! A program that redraws the block's rows completely for every trial. It keeps each row's error, so that a trial draws
 //! one view's row, combines it with the other view's and adds up.
 
-use crate::held::{combine, near_edge, position, seen, square, window, Held, Pair, Pixel};
+use crate::held::{combine, near_edge, position, read, seen, square, window, Held, Pair, Pixel};
 use crate::scene::Scene;
 use luphwezane::{Block, Settings};
 
@@ -15,7 +15,7 @@ pub struct Redraw {
 struct Row {
     depths: Vec<u8>,
     pixels: Vec<Pixel>,
-    combined: Vec<u8>,
+    combined: Vec<u16>,
     limits: Vec<i16>,
 }
 
@@ -89,8 +89,8 @@ impl Redraw {
         let (w, bytes) = (self.held.w, self.held.mark_bytes());
         let Row { pixels, limits, .. } = &self.row;
         self.held.limits[view][y * w..(y + 1) * w].copy_from_slice(limits);
-        self.held.samples[view][y * w..(y + 1) * w].iter_mut().zip(pixels).for_each(|(sample, pixel)| *sample = pixel.sample);
-        self.held.fronts[view][y * w..(y + 1) * w].iter_mut().zip(pixels).for_each(|(front, pixel)| *front = pixel.front);
+        self.held.samples[view][y * w..(y + 1) * w].iter_mut().zip(pixels).for_each(|(sample, pixel)| *sample = pixel.sample as u16);
+        self.held.fronts[view][y * w..(y + 1) * w].iter_mut().zip(pixels).for_each(|(front, pixel)| *front = pixel.front as u8);
         let marks = &mut self.held.marks[view][y * bytes..(y + 1) * bytes];
         for (byte, pixels) in marks.iter_mut().zip(pixels.chunks(8)) {
             *byte = pixels.iter().enumerate().fold(0, |byte, (k, pixel)| byte | u8::from(pixel.hole) << k);
@@ -105,21 +105,21 @@ impl Redraw {
         let (marks, reference) = (&held.marks[other][y * bytes..(y + 1) * bytes], &held.reference[y * w..(y + 1) * w]);
         let mut error = 0;
         for (x, own) in self.row.pixels.iter().enumerate() {
-            let far = Pixel { sample: samples[x], hole: marks[x / 8] >> (x % 8) & 1 == 1, front: fronts[x] };
+            let far = Pixel { sample: read(samples[x]), hole: marks[x / 8] >> (x % 8) & 1 == 1, front: u32::from(fronts[x]) };
             let (left, right) = if view == 0 { (*own, far) } else { (far, *own) };
             let sample = combine(held.share, held.tolerance, left, right);
-            self.row.combined[x] = sample;
-            error += square(sample, reference[x]);
+            self.row.combined[x] = sample as u16;
+            error += square(sample, read(reference[x]));
         }
         u64::from(error)
     }
 }
 
 /// Draws a whole row from the right, column by column. `front` is the entry of the greatest column placed at the limit.
-fn draw_row<const RIGHT: bool>(table: &[u16; 256], texture: &[u8], row: &mut Row) {
+fn draw_row<const RIGHT: bool>(table: &[u16; 256], texture: &[u16], row: &mut Row) {
     let w = texture.len();
     let (mut top, mut limit, mut front) = (w, i32::MAX, 0);
-    let mut next = None;
+    let (mut next, mut ends) = (None, [0; 8]);
     for c in (0..w).rev() {
         let at = seen::<RIGHT>(w, c);
         let depth = row.depths[at];
@@ -127,13 +127,14 @@ fn draw_row<const RIGHT: bool>(table: &[u16; 256], texture: &[u8], row: &mut Row
         let from = position(place);
         if from < top {
             let (far_depth, far_place) = next.unwrap_or((depth, 0));
-            let window = window::<RIGHT>(texture, at);
-            let pair = Pair { window, depths: [depth, far_depth], gap: far_place - place, last: next.is_none() };
+            let window = window::<RIGHT>(texture, at, &mut ends);
+            let pair = Pair::<RIGHT> { window, depths: [depth, far_depth], gap: far_place - place, last: next.is_none() };
             for p in from..top {
                 row.pixels[seen::<RIGHT>(w, p)] = pair.pixel(4 * p as i32 - place);
             }
             if near_edge(limit, far_place) {
-                row.pixels[seen::<RIGHT>(w, top - 1)] = Pixel { sample: texture[front], hole: false, front: row.depths[front] };
+                row.pixels[seen::<RIGHT>(w, top - 1)] =
+                    Pixel { sample: read(texture[front]), hole: false, front: u32::from(row.depths[front]) };
             }
             top = from;
         }

@@ -1,7 +1,7 @@
 //! A span renderer written for speed: the library's own way of working, by hand. A trial goes over the span of each of the
 //! block's rows once, from the right, and adds up old and new errors without storing a pixel.
 
-use crate::held::{combine, near_edge, position, seen, square, window, Held, Pair, Pixel};
+use crate::held::{combine, near_edge, position, read, seen, square, window, Held, Pair, Pixel};
 use crate::scene::Scene;
 use luphwezane::{Block, Settings};
 
@@ -25,18 +25,18 @@ struct Edit<'a> {
 struct Drawn {
     at: usize,
     own: Pixel,
-    sample: u8,
+    sample: u32,
 }
 
 /// What is beside the drawn view in a row: the other view, the combined picture as it is held, and the reference.
 struct Beside<'a> {
     share: u32,
-    tolerance: u8,
-    samples: &'a [u8],
+    tolerance: u32,
+    samples: &'a [u16],
     fronts: &'a [u8],
     marks: &'a [u8],
-    combined: &'a [u8],
-    reference: &'a [u8],
+    combined: &'a [u16],
+    reference: &'a [u16],
 }
 
 impl Beside<'_> {
@@ -44,11 +44,13 @@ impl Beside<'_> {
     #[inline(always)]
     fn measured<const RIGHT: bool>(&self, p: usize, own: Pixel, old: &mut u32, new: &mut u32) -> Drawn {
         let at = seen::<RIGHT>(self.reference.len(), p);
-        let far = Pixel { sample: self.samples[at], hole: self.marks[at / 8] >> (at % 8) & 1 == 1, front: self.fronts[at] };
+        let far =
+            Pixel { sample: read(self.samples[at]), hole: self.marks[at / 8] >> (at % 8) & 1 == 1, front: u32::from(self.fronts[at]) };
         let (left, right) = if RIGHT { (far, own) } else { (own, far) };
         let sample = combine(self.share, self.tolerance, left, right);
-        *old += square(self.combined[at], self.reference[at]);
-        *new += square(sample, self.reference[at]);
+        let reference = read(self.reference[at]);
+        *old += square(read(self.combined[at]), reference);
+        *new += square(sample, reference);
         Drawn { at, own, sample }
     }
 }
@@ -62,20 +64,35 @@ impl Span {
 
     /// Draws both views and the combined picture.
     pub fn draw_all(&mut self) {
-        let (w, h) = (self.held.w, self.held.h);
         self.held.total = 0;
-        for y in 0..h {
+        for y in 0..self.held.h {
             self.draw_row::<false>(y);
             self.draw_row::<true>(y);
-            let base = y * w;
-            let mut error = 0;
-            for x in 0..w {
-                let sample = combine(self.held.share, self.held.tolerance, self.shown(0, y, x), self.shown(1, y, x));
-                self.held.combined[base + x] = sample;
-                error += square(sample, self.held.reference[base + x]);
-            }
-            self.held.total += u64::from(error);
+            self.held.total += u64::from(self.combine_row(y));
         }
+    }
+
+    /// Combines row y of both views as they are held and answers the row's error.
+    fn combine_row(&mut self, y: usize) -> u32 {
+        let held = &mut self.held;
+        let (w, bytes, share, tolerance) = (held.w, held.mark_bytes(), held.share, held.tolerance);
+        let (row, packed) = (y * w..(y + 1) * w, y * bytes..(y + 1) * bytes);
+        let samples = held.samples.each_ref().map(|plane| &plane[row.clone()]);
+        let fronts = held.fronts.each_ref().map(|plane| &plane[row.clone()]);
+        let marks = held.marks.each_ref().map(|plane| &plane[packed.clone()]);
+        let (combined, reference) = (&mut held.combined[row.clone()], &held.reference[row]);
+        let mut error = 0;
+        for x in 0..w {
+            let shown = |v: usize| Pixel {
+                sample: u32::from(samples[v][x]),
+                hole: marks[v][x / 8] >> (x % 8) & 1 == 1,
+                front: u32::from(fronts[v][x]),
+            };
+            let sample = combine(share, tolerance, shown(0), shown(1));
+            combined[x] = sample as u16;
+            error += square(sample, read(reference[x]));
+        }
+        error
     }
 
     /// Draws row y of a view into its planes.
@@ -127,14 +144,6 @@ impl Span {
         Edit { y: block.row as usize + k, column, part, first, end: first + width }
     }
 
-    /// The view's pixel at entry x of row y, as it is held.
-    #[inline(always)]
-    fn shown(&self, view: usize, y: usize, x: usize) -> Pixel {
-        let (held, at) = (&self.held, y * self.held.w + x);
-        let hole = held.marks[view][y * held.mark_bytes() + x / 8] >> (x % 8) & 1 == 1;
-        Pixel { sample: held.samples[view][at], hole, front: held.fronts[view][at] }
-    }
-
     /// The change of a row's error; `keep` is told each position that is drawn.
     #[inline(always)]
     fn row_change<const RIGHT: bool>(&self, edit: Edit, mut keep: impl FnMut(Drawn)) -> i64 {
@@ -156,7 +165,7 @@ impl Span {
         let plain = |c: usize| {
             let at = seen::<RIGHT>(w, c);
             let front = if (edit.first..edit.end).contains(&c) { edit.part[at - edit.column] } else { depths[at] };
-            Pixel { sample: texture[at], hole: false, front }
+            Pixel { sample: read(texture[at]), hole: false, front: u32::from(front) }
         };
 
         let mut low = i32::MAX;
@@ -178,7 +187,7 @@ impl Span {
 
         // `front` is the greatest column placed at the limit, w where it lies right of the block.
         let (mut old, mut new) = (0, 0);
-        let (mut c, mut front) = (edit.end, w);
+        let (mut c, mut front, mut ends) = (edit.end, w, [0; 8]);
         while c > 0 && top > start {
             c -= 1;
             let at = seen::<RIGHT>(w, c);
@@ -188,8 +197,8 @@ impl Span {
                 let from = position(here).max(start);
                 if from < top {
                     let (far_depth, far_place) = next.unwrap_or((depth, 0));
-                    let window = window::<RIGHT>(texture, at);
-                    let pair = Pair { window, depths: [depth, far_depth], gap: far_place - here, last: next.is_none() };
+                    let window = window::<RIGHT>(texture, at, &mut ends);
+                    let pair = Pair::<RIGHT> { window, depths: [depth, far_depth], gap: far_place - here, last: next.is_none() };
                     if near_edge(limit, far_place) {
                         top -= 1;
                         let near = if front < w { front } else { front_column::<RIGHT>(limits, edit.end) };
@@ -214,9 +223,9 @@ impl Span {
         let (view, base, packed) = (usize::from(RIGHT), edit.y * self.held.w, edit.y * self.held.mark_bytes());
         self.held.depths[view][base + edit.column..base + edit.column + part.len()].copy_from_slice(part);
         for Drawn { at, own, sample } in drawn.drain(..) {
-            self.held.samples[view][base + at] = own.sample;
-            self.held.fronts[view][base + at] = own.front;
-            self.held.combined[base + at] = sample;
+            self.held.samples[view][base + at] = own.sample as u16;
+            self.held.fronts[view][base + at] = own.front as u8;
+            self.held.combined[base + at] = sample as u16;
             put_mark(&mut self.held.marks[view][packed + at / 8], at % 8, own.hole);
         }
         self.drawn = drawn;
@@ -243,31 +252,31 @@ impl Span {
         let held = &mut self.held;
         let (view, w, bytes) = (usize::from(RIGHT), held.w, held.mark_bytes());
         let (row, packed) = (y * w..(y + 1) * w, y * bytes..(y + 1) * bytes);
-        let (texture, depths) = (&held.textures[view][row.clone()], &held.depths[view][row.clone()]);
+        let (table, texture, depths) = (&held.tables[view], &held.textures[view][row.clone()], &held.depths[view][row.clone()]);
         let (samples, fronts) = (&mut held.samples[view][row.clone()], &mut held.fronts[view][row.clone()]);
         let (limits, marks) = (&mut held.limits[view][row], &mut held.marks[view][packed]);
-        let (mut top, mut limit, mut front, mut next) = (w, i32::MAX, 0, None);
+        let (mut top, mut limit, mut front, mut next, mut ends) = (w, i32::MAX, 0, None, [0; 8]);
         for c in (0..w).rev() {
             let at = seen::<RIGHT>(w, c);
             let depth = depths[at];
-            let place = 4 * c as i32 - i32::from(held.tables[view][usize::from(depth)]);
+            let place = 4 * c as i32 - i32::from(table[usize::from(depth)]);
             if place < limit {
                 let from = position(place);
                 if from < top {
                     let (far_depth, far_place) = next.unwrap_or((depth, 0));
-                    let window = window::<RIGHT>(texture, at);
-                    let pair = Pair { window, depths: [depth, far_depth], gap: far_place - place, last: next.is_none() };
+                    let window = window::<RIGHT>(texture, at, &mut ends);
+                    let pair = Pair::<RIGHT> { window, depths: [depth, far_depth], gap: far_place - place, last: next.is_none() };
                     if near_edge(limit, far_place) {
                         top -= 1;
                         let at = seen::<RIGHT>(w, top);
-                        samples[at] = texture[front];
+                        samples[at] = read(texture[front]) as u16;
                         fronts[at] = depths[front];
                         put_mark(&mut marks[at / 8], at % 8, false);
                     }
                     for p in from..top {
                         let (at, pixel) = (seen::<RIGHT>(w, p), pair.pixel(4 * p as i32 - place));
-                        samples[at] = pixel.sample;
-                        fronts[at] = pixel.front;
+                        samples[at] = pixel.sample as u16;
+                        fronts[at] = pixel.front as u8;
                         put_mark(&mut marks[at / 8], at % 8, pixel.hole);
                     }
                     top = from;
