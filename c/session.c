@@ -1,6 +1,6 @@
 /*
- * The small session of document 01 (cases k, l and m), reports, refused calls, drawn rows (case g and card 7's) and samples of
- * ten bits and above, from C. Its output is compared with session.out. It compiles as C99 and as C++.
+ * The small session of document 01 (cases k, l and m), reports, refused calls, drawn rows (case g and card 7's), samples of ten
+ * bits and above, and candidates of every kind, from C. Its output is compared with session.out. It compiles as C99 and as C++.
  */
 #include <stdio.h>
 #include <string.h>
@@ -82,14 +82,14 @@ static void print_holes(const luph_settings *s, uint32_t view) {
 static void print_trial(const luph_settings *s, const luph_pictures *p, const luph_planes *q, uint32_t column, uint8_t d) {
     const luph_block b = {column, 0, 1, 1};
     int64_t change = 999;
-    const int number = luph_get(s, p, q, 0, b, in(&d, 1), &change);
+    const int number = luph_get(s, p, q, 0, b, luph_full(in(&d, 1)), &change);
     printf("get column %lu depth %d: %d, change %ld, total %lu\n", (unsigned long)column, d, number, (long)change, (unsigned long)s->total);
 }
 
 static void print_set(luph_settings *s, const luph_pictures *p, const luph_planes *q, uint32_t column, uint8_t d) {
     const luph_block b = {column, 0, 1, 1};
     int64_t change = 999;
-    const int number = luph_set(s, p, q, 0, b, in(&d, 1), &change);
+    const int number = luph_set(s, p, q, 0, b, luph_full(in(&d, 1)), &change);
     printf("set column %lu depth %d: %d, change %ld, total %lu\n", (unsigned long)column, d, number, (long)change, (unsigned long)s->total);
 }
 
@@ -129,12 +129,12 @@ static void refusals(luph_settings *s, const luph_pictures *p, const luph_planes
     int number;
     print_trial(s, p, q, 4, 4); /* 5: past the last column */
     print_set(s, p, q, 4, 4);
-    number = luph_get(s, p, q, 2, whole, in(depths, W), &change);
+    number = luph_get(s, p, q, 2, whole, luph_full(in(depths, W)), &change);
     printf("get of view 2: %d, change %ld\n", number, (long)change);
-    number = luph_set(s, p, q, 1, whole, in(NULL, 0), &change);
+    number = luph_set(s, p, q, 1, whole, luph_full(in(NULL, 0)), &change);
     printf("set of no candidate: %d, change %ld\n", number, (long)change);
     none.combined = samples(NULL, 0);
-    number = luph_get(s, p, &none, 0, whole, in(depths, W), &change);
+    number = luph_get(s, p, &none, 0, whole, luph_full(in(depths, W)), &change);
     printf("get without a combined picture: %d, change %ld\n", number, (long)change);
     other.w = 4097;
     other.total = 77;
@@ -175,8 +175,8 @@ static void nulls(luph_settings *s, const luph_pictures *p, const luph_planes *q
         int64_t change;
         drop(&some, &held, slice);
         refused[0] += luph_open(s, &some, &held) == LUPH_REFUSED_PLANE;
-        refused[1] += luph_get(s, &some, &held, 0, whole, in(depths, W), &change) == LUPH_REFUSED_PLANE;
-        refused[2] += luph_set(s, &some, &held, 0, whole, in(depths, W), &change) == LUPH_REFUSED_PLANE;
+        refused[1] += luph_get(s, &some, &held, 0, whole, luph_full(in(depths, W)), &change) == LUPH_REFUSED_PLANE;
+        refused[2] += luph_set(s, &some, &held, 0, whole, luph_flat(3), &change) == LUPH_REFUSED_PLANE;
         refused[3] += luph_check(s, &some, &held, &r) == LUPH_REFUSED_PLANE;
     }
     printf("one of 14 slices NULL, refused: open %d, get %d, set %d, check %d\n", refused[0], refused[1], refused[2], refused[3]);
@@ -228,6 +228,107 @@ static void ten_bits(luph_settings *s, const luph_planes *q) {
     print_samples("combined", combined);
 }
 
+/* A picture of several rows, for candidates, and the block of its three middle columns. */
+enum { COLUMNS = 5, ROWS = 3, AREA = COLUMNS * ROWS };
+static const luph_block middle = {1, 0, 3, 3};
+static uint8_t area_depth[2][AREA];
+
+/* GET and SET of a candidate for a block of the left view, and where SET accepts it the depths of all rows. */
+static void print_candidate(const char *name, luph_settings *s, const luph_pictures *p, const luph_planes *q, luph_block b,
+    luph_candidate candidate) {
+    int64_t tried = 999, change = 999;
+    const int get = luph_get(s, p, q, 0, b, candidate, &tried), set = luph_set(s, p, q, 0, b, candidate, &change);
+    printf("%s: get %d, change %ld; set %d, change %ld, total %lu", name, get, (long)tried, set, (long)change, (unsigned long)s->total);
+    for (int i = 0; set == LUPH_ACCEPTED && i < AREA; i++) printf(i == 0 ? "; %d" : i % COLUMNS == 0 ? ", %d" : " %d", area_depth[0][i]);
+    printf("\n");
+}
+
+/* The same candidate with other bytes: a kind that has none must not look at them. */
+static luph_candidate with_bytes(luph_candidate candidate, luph_in bytes) {
+    candidate.bytes = bytes;
+    return candidate;
+}
+
+static luph_candidate of_kind(luph_candidate candidate, uint32_t kind) {
+    candidate.kind = kind;
+    return candidate;
+}
+
+/* Candidates of every kind, and the same once more as full blocks. */
+static void accepted(luph_settings *s, const luph_pictures *p, const luph_planes *q) {
+    static const uint8_t lower[9] = {1, 1, 1, 7, 1, 1, 7, 7, 1}, odd[9] = {9, 4, 9, 4, 9, 4, 9, 4, 9};
+    static const uint8_t bits[2] = {0x55, 0x01}, spare[2] = {0x55, 0xFF};
+    const luph_in nowhere = in((const uint8_t *)1, (size_t)-1);
+    const luph_candidate line = luph_line(0, 0, 2, 2, 1, 7);
+    const luph_block row = {0, 2, 5, 1};
+    print_candidate("one value", s, p, q, middle, luph_flat(6));
+    print_candidate("a line", s, p, q, middle, line);
+    print_candidate("the same as a full block", s, p, q, middle, luph_full(in(lower, 9)));
+    print_candidate("the line from its end to its start", s, p, q, middle, luph_line(2, 2, 0, 0, 1, 7));
+    print_candidate("an upright line", s, p, q, middle, luph_line(1, 0, 1, 2, 1, 7));
+    print_candidate("a mask", s, p, q, middle, luph_mask(in(bits, 2), 4, 9));
+    print_candidate("the same with spare bits", s, p, q, middle, luph_mask(in(spare, 2), 4, 9));
+    print_candidate("the same as a full block", s, p, q, middle, luph_full(in(odd, 9)));
+    print_candidate("a mask of one row", s, p, q, row, luph_mask(in(bits, 1), 0, 255));
+    print_candidate("one value with bytes nowhere", s, p, q, middle, with_bytes(luph_flat(2), nowhere));
+    print_candidate("a line with bytes nowhere", s, p, q, middle, with_bytes(line, nowhere));
+}
+
+/* 7, 14 and 15, each after 5 and 6. */
+static void refused(luph_settings *s, const luph_pictures *p, const luph_planes *q) {
+    static const uint8_t bytes[9] = {255, 255, 255, 255, 255, 255, 255, 255, 255};
+    const luph_candidate line = luph_line(1, 1, 2, 2, 1, 7), mask = luph_mask(in(bytes, 1), 4, 9);
+    const luph_block row = {0, 1, 5, 1}, column = {4, 0, 1, 3}, past = {3, 0, 3, 3};
+    int64_t change = 999;
+    print_candidate("a point inside", s, p, q, middle, line);
+    print_candidate("a point outside", s, p, q, middle, luph_line(0, 0, 3, 2, 1, 7));
+    print_candidate("a point far outside", s, p, q, middle, luph_line(0, 4294967295u, 2, 2, 1, 7));
+    print_candidate("a side in common", s, p, q, middle, luph_line(0, 0, 2, 0, 1, 7));
+    print_candidate("one point twice", s, p, q, middle, luph_line(2, 2, 2, 2, 1, 7));
+    print_candidate("a line in one row", s, p, q, row, luph_line(0, 0, 4, 0, 1, 7));
+    print_candidate("a line in one column", s, p, q, column, luph_line(0, 0, 0, 2, 1, 7));
+    print_candidate("a mask of a byte less", s, p, q, middle, mask);
+    print_candidate("a mask of a byte more", s, p, q, middle, luph_mask(in(bytes, 3), 4, 9));
+    print_candidate("a mask of NULL", s, p, q, middle, luph_mask(in(NULL, 2), 4, 9));
+    print_candidate("a full block of NULL", s, p, q, middle, luph_full(in(NULL, 9)));
+    print_candidate("a full block with a depth less", s, p, q, middle, luph_full(in(bytes, 8)));
+    print_candidate("kind 4", s, p, q, middle, of_kind(luph_full(in(bytes, 9)), 4));
+    print_candidate("kind 4,294,967,295", s, p, q, middle, of_kind(luph_full(in(bytes, 9)), 4294967295u));
+    print_candidate("kind 4 with bytes nowhere", s, p, q, middle, of_kind(with_bytes(line, in((const uint8_t *)1, 9)), 4));
+    print_candidate("a wrong line past an edge", s, p, q, past, line);
+    print_candidate("a wrong mask past an edge", s, p, q, past, mask);
+    print_candidate("kind 4 past an edge", s, p, q, past, of_kind(line, 4));
+    printf("of view 2: a line %d", luph_get(s, p, q, 2, past, line, &change));
+    printf(", a mask %d", luph_get(s, p, q, 2, past, mask, &change));
+    printf(", kind 4 %d", luph_get(s, p, q, 2, past, of_kind(mask, 4), &change));
+    printf(", change %ld\n", (long)change);
+}
+
+static void candidates(luph_settings s) {
+    static uint16_t picture_of_area[AREA], area_sample[2][AREA], area_combined[AREA];
+    static uint8_t area_front[2][AREA], area_marks[2][ROWS];
+    static int16_t area_limit[2][AREA];
+    luph_pictures p;
+    luph_planes q;
+    for (int i = 0; i < AREA; i++) picture_of_area[i] = (uint16_t)(70 * i);
+    p.texture[0] = p.texture[1] = p.reference = picture(picture_of_area, AREA);
+    for (int v = 0; v < 2; v++) {
+        q.depth[v] = out(area_depth[v], AREA);
+        q.sample[v] = samples(area_sample[v], AREA);
+        q.front[v] = out(area_front[v], AREA);
+        q.marks[v] = out(area_marks[v], ROWS);
+        q.limit[v].data = area_limit[v];
+        q.limit[v].len = AREA;
+    }
+    q.combined = samples(area_combined, AREA);
+    s.w = COLUMNS;
+    s.h = ROWS;
+    print_open(&s, &p, &q);
+    accepted(&s, &p, &q);
+    refused(&s, &p, &q);
+    print_check(&s, &p, &q);
+}
+
 int main(void) {
     luph_settings s;
     luph_pictures p;
@@ -244,5 +345,6 @@ int main(void) {
     nulls(&s, &p, &q);
     rows(&s);
     ten_bits(&s, &q);
+    candidates(s);
     return 0;
 }

@@ -7,8 +7,9 @@
  *
  * A session is a luph_settings record, the pictures it is about and the planes that the caller keeps for it.
  * luph_open fills the held planes. luph_get answers how the total would change if a block of depths were
- * replaced, and writes nothing; luph_set replaces it. Between these calls the caller keeps pictures, planes and
- * settings as the last call left them.
+ * replaced, and writes nothing; luph_set replaces it. What takes the block's place is a candidate: a full block of
+ * depths, one value, or two regions with a value each, parted by a line or by a mask. Between these calls the caller
+ * keeps pictures, planes and settings as the last call left them.
  *
  * Lengths, in entries, for w columns and h rows, all in row order:
  *
@@ -26,9 +27,10 @@
  * Every call answers 0 (LUPH_ACCEPTED) or the number of the first refusal that applies, in the order given with
  * the call. A refused call writes nothing: no plane, no settings, no answer.
  *
- * Planes must not overlap: a plane that is lent for writing shares no byte with any other argument of the call.
- * Lengths and numbers may be anything. A `data` of NULL counts as length 0. Pointers to structs and to answers
- * must be valid.
+ * Planes must not overlap: a plane that is lent for writing shares no byte with any other argument of the call, nor
+ * with the bytes of a candidate. Lengths and numbers may be anything. A `data` of NULL counts as length 0. Pointers to
+ * structs and to answers must be valid, and so must a slice's other than NULL; only the bytes of a candidate whose kind
+ * has none may be anything.
  *
  * The library keeps no state of its own and allocates nothing. Calls on different sessions may run at the same
  * time, and so may calls that only read (luph_get, luph_check, luph_holes) on one session.
@@ -48,8 +50,10 @@ enum {
     LUPH_REFUSED_SHARE = 4,     /* share above 64 */
     LUPH_REFUSED_BOUNDS = 5,    /* a block of zero width or height, or reaching past an edge */
     LUPH_REFUSED_VIEW = 6,      /* a view neither 0 nor 1 */
-    LUPH_REFUSED_CANDIDATE = 7, /* a candidate whose length is not width * height */
+    LUPH_REFUSED_CANDIDATE = 7, /* a full block without width * height depths, or a candidate of an unknown kind */
     LUPH_REFUSED_TOTAL = 8,     /* total plus change below 0 or above 1,046,529 * w * h; never in a session that is kept as above */
+    LUPH_REFUSED_LINE = 14,     /* a line's point inside the block or outside it, or two points on one side */
+    LUPH_REFUSED_MASK = 15,     /* a mask without (width * height + 7) / 8 bytes */
     LUPH_REFUSED_SAMPLE = 21    /* a texture or reference entry above 1,023 */
 };
 
@@ -64,7 +68,7 @@ typedef struct luph_settings {
     uint64_t total;      /* the sum of squared errors of the combined picture; luph_open and luph_set write it */
 } luph_settings;
 
-/* Bytes that a call only reads: depths, candidates and marks. */
+/* Bytes that a call only reads: depths, a candidate's bytes and marks. */
 typedef struct luph_in {
     const uint8_t *data; /* the first entry */
     size_t len;          /* the number of entries */
@@ -118,6 +122,57 @@ typedef struct luph_block {
     uint32_t height; /* its rows, at least 1 */
 } luph_block;
 
+/* The kinds of a candidate. */
+enum { LUPH_FULL = 0, LUPH_FLAT = 1, LUPH_LINE = 2, LUPH_MASK = 3 };
+
+/*
+ * What luph_get tries and luph_set writes in a block; luph_full, luph_flat, luph_line and luph_mask make one.
+ *
+ * A line goes from one point of the block's border to another. The sides of a block are its first and last column and
+ * its first and last row; a corner lies on two. The points have no side in common, so that a block of one column or
+ * one row has no line. A position of the block is in region 1 where
+ *
+ *     (end_column - start_column) * (row - start_row) - (end_row - start_row) * (column - start_column)
+ *
+ * is above 0, its column and row counted from the block's first, else in region 0. For a line from the first row down
+ * to the last, region 1 is at the left; for one from the first column to the last, below.
+ *
+ * A mask has a bit for each position, by rows without gaps, low bit first: position k, counted by rows, has bit k % 8
+ * of byte k / 8. 1 is region 1. The bits past the last position are not looked at.
+ */
+typedef struct luph_candidate {
+    uint32_t kind;                    /* one of the above; another number is refused with 7 */
+    uint8_t value[2];                 /* one value: value[0]; line and mask: the values of region 0 and of region 1 */
+    uint32_t start_column, start_row; /* a line's start, counted from the block's first column and row */
+    uint32_t end_column, end_row;     /* its end */
+    luph_in bytes;                    /* full block: its depths in row order; mask: its bits; else not looked at */
+} luph_candidate;
+
+/* A full block: width * height depths in row order. */
+static inline luph_candidate luph_full(luph_in depths) {
+    const luph_candidate x = {LUPH_FULL, {0, 0}, 0, 0, 0, 0, depths};
+    return x;
+}
+
+/* One value for the whole block. */
+static inline luph_candidate luph_flat(uint8_t depth) {
+    const luph_candidate x = {LUPH_FLAT, {depth, 0}, 0, 0, 0, 0, {NULL, 0}};
+    return x;
+}
+
+/* Two regions, parted by a line. */
+static inline luph_candidate luph_line(uint32_t start_column, uint32_t start_row, uint32_t end_column, uint32_t end_row, uint8_t value0,
+    uint8_t value1) {
+    const luph_candidate x = {LUPH_LINE, {value0, value1}, start_column, start_row, end_column, end_row, {NULL, 0}};
+    return x;
+}
+
+/* Two regions, told by a mask of (width * height + 7) / 8 bytes. */
+static inline luph_candidate luph_mask(luph_in bits, uint8_t value0, uint8_t value1) {
+    const luph_candidate x = {LUPH_MASK, {value0, value1}, 0, 0, 0, 0, bits};
+    return x;
+}
+
 /* What luph_check found. */
 typedef struct luph_report {
     int kind;        /* 0 sound, 1 a difference at row and column, 2 only the total differs */
@@ -130,6 +185,13 @@ typedef struct luph_report {
 #ifdef __cplusplus
 extern "C" {
 #endif
+
+/* A candidate but for its bytes. */
+typedef struct luph_private_shape {
+    uint32_t kind;
+    uint8_t value[2];
+    uint32_t start_column, start_row, end_column, end_row;
+} luph_private_shape;
 
 #define LUPH_RAW_IN(name) const uint8_t *name, size_t name##_len
 #define LUPH_RAW_OUT(name) uint8_t *name, size_t name##_len
@@ -151,9 +213,9 @@ uint32_t luph_raw_open(luph_settings settings, LUPH_RAW_PICTURES, LUPH_RAW_DEPTH
     LUPH_RAW_HELD_OUT, uint64_t *total);
 uint32_t luph_raw_get(uint32_t w, uint32_t h, const uint16_t *left, const uint16_t *right, uint8_t share, uint8_t tolerance,
     uint64_t total, LUPH_RAW_PICTURES, LUPH_RAW_DEPTHS(LUPH_RAW_IN), LUPH_RAW_HELD_IN,
-    uint32_t view, luph_block block, LUPH_RAW_IN(candidate), int64_t *change);
+    uint32_t view, luph_block block, luph_private_shape shape, LUPH_RAW_IN(bytes), int64_t *change);
 uint32_t luph_raw_set(luph_settings settings, LUPH_RAW_PICTURES, LUPH_RAW_DEPTHS(LUPH_RAW_OUT),
-    LUPH_RAW_HELD_OUT, uint32_t view, luph_block block, LUPH_RAW_IN(candidate), int64_t *change,
+    LUPH_RAW_HELD_OUT, uint32_t view, luph_block block, luph_private_shape shape, LUPH_RAW_IN(bytes), int64_t *change,
     uint64_t *total);
 uint32_t luph_raw_check(luph_settings settings, LUPH_RAW_PICTURES, LUPH_RAW_DEPTHS(LUPH_RAW_IN),
     LUPH_RAW_HELD_IN, uint32_t *kind, uint32_t *row, uint32_t *column);
@@ -219,6 +281,23 @@ static inline luph_limits luph_private_limits(luph_limits x) {
         x.len = 0;
     }
     return x;
+}
+
+/* The bytes that a candidate of this kind has; none where its kind has none. */
+static inline luph_in luph_private_bytes(luph_candidate x) {
+    static const uint8_t none = 0;
+    const luph_in empty = {&none, 0};
+    switch (x.kind) {
+    case LUPH_FULL:
+    case LUPH_MASK: return x.bytes.data == NULL ? empty : x.bytes;
+    default: return empty;
+    }
+}
+
+/* The rest of a candidate. */
+static inline luph_private_shape luph_private_shape_of(luph_candidate x) {
+    const luph_private_shape shape = {x.kind, {x.value[0], x.value[1]}, x.start_column, x.start_row, x.end_column, x.end_row};
+    return shape;
 }
 
 /*
@@ -306,22 +385,23 @@ static inline int luph_open(luph_settings *s, const luph_pictures *p, const luph
 }
 
 /*
- * GET: answers in *change how the total would change if the block of the view's depths were the candidate, whose
- * width * height depths come in row order. Reads samples above 1,023, of the pictures and of the planes, as 1,023.
- * Writes no plane. Refuses 1, 2, 3, 4, 6, 5, 7, then 8.
+ * GET: answers in *change how the total would change if the block of the view's depths were the candidate: a full
+ * block's depths, or the values of one value, a line or a mask at the positions that they fill. Reads samples above
+ * 1,023, of the pictures and of the planes, as 1,023. Writes no plane. Refuses 1, 2, 3, 4, 6, 5, then by the
+ * candidate's kind 7 (a full block, or an unknown kind), 14 (a line) or 15 (a mask), then 8.
  */
 static inline int luph_get(const luph_settings *s, const luph_pictures *p, const luph_planes *q, uint32_t view, luph_block b,
-    luph_in candidate, int64_t *change) {
+    luph_candidate candidate, int64_t *change) {
     luph_private_copy copy;
-    if (candidate.data == NULL || luph_private_has_null(p, q)) {
+    if (luph_private_has_null(p, q)) {
         luph_private_fill(&copy, p, q);
         p = &copy.pictures;
         q = &copy.planes;
-        candidate = luph_private_in(candidate);
     }
+    const luph_in bytes = luph_private_bytes(candidate);
     int64_t found; /* written by an accepted call */
     const uint32_t number = luph_raw_get(s->w, s->h, s->left, s->right, s->share, s->tolerance, s->total,
-        LUPH_RAW_ALL(p, q), view, b, LUPH_RAW_SLICE(candidate), &found);
+        LUPH_RAW_ALL(p, q), view, b, luph_private_shape_of(candidate), LUPH_RAW_SLICE(bytes), &found);
     if (number == 0) *change = found;
     return (int)number;
 }
@@ -330,18 +410,19 @@ static inline int luph_get(const luph_settings *s, const luph_pictures *p, const
  * SET: writes the candidate into the block, brings the held planes up to date, and answers the change in *change
  * and the new total in s->total. Reads samples and refuses as GET does, in that order.
  */
-static inline int luph_set(luph_settings *s, const luph_pictures *p, const luph_planes *q, uint32_t view, luph_block b, luph_in candidate,
-    int64_t *change) {
+static inline int luph_set(luph_settings *s, const luph_pictures *p, const luph_planes *q, uint32_t view, luph_block b,
+    luph_candidate candidate, int64_t *change) {
     luph_private_copy copy;
-    if (candidate.data == NULL || luph_private_has_null(p, q)) {
+    if (luph_private_has_null(p, q)) {
         luph_private_fill(&copy, p, q);
         p = &copy.pictures;
         q = &copy.planes;
-        candidate = luph_private_in(candidate);
     }
+    const luph_in bytes = luph_private_bytes(candidate);
     int64_t found = 0;
     uint64_t total = 0;
-    const uint32_t number = luph_raw_set(*s, LUPH_RAW_ALL(p, q), view, b, LUPH_RAW_SLICE(candidate), &found, &total);
+    const uint32_t number = luph_raw_set(*s, LUPH_RAW_ALL(p, q), view, b, luph_private_shape_of(candidate), LUPH_RAW_SLICE(bytes), &found,
+        &total);
     if (number == 0) {
         *change = found;
         s->total = total;

@@ -3,11 +3,12 @@
 //! A [`Session`] holds what two cameras, left and right, show from one place between them: each view drawn from its
 //! texture and depths, the picture combined from both, and the total of its squared errors against a reference.
 //! [`Session::get`] answers how that total would change if a block of depths were replaced; [`Session::set`]
-//! replaces it. Both touch only the stretch of each row that the block can change. Samples have ten bits, 0 to
+//! replaces it. What takes the block's place is a [`Candidate`]: a full block, one value, or two regions with one value
+//! each. Both calls touch only the stretch of each row that the block can change. Samples have ten bits, 0 to
 //! [`GREATEST_SAMPLE`].
 //!
 //! ```
-//! use luphwezane::{Block, Pictures, Report, Session, Settings, View};
+//! use luphwezane::{Block, Candidate, Pictures, Report, Session, Settings, View};
 //!
 //! // One row of four columns. Depth d is shifted by d quarters of a sample.
 //! let table = std::array::from_fn(|d| d as u16);
@@ -19,11 +20,11 @@
 //!
 //! // Trying depths in column 2 of the left view changes nothing.
 //! let block = Block { column: 2, row: 0, width: 1, height: 1 };
-//! assert_eq!(session.get(View::Left, block, &[4])?, 136);
-//! assert_eq!(session.get(View::Left, block, &[5])?, 100);
+//! assert_eq!(session.get(View::Left, block, Candidate::Flat(4))?, 136);
+//! assert_eq!(session.get(View::Left, block, Candidate::Flat(5))?, 100);
 //!
 //! // Setting one does.
-//! assert_eq!(session.set(View::Left, block, &[5])?, 100);
+//! assert_eq!(session.set(View::Left, block, Candidate::Flat(5))?, 100);
 //! assert_eq!(session.total(), 100);
 //! assert_eq!(session.planes().combined, [10, 30, 30, 40]);
 //! assert_eq!(session.holes(View::Left), 1);
@@ -37,6 +38,7 @@
 
 #![deny(missing_docs, unsafe_code)]
 
+mod candidate;
 #[allow(unsafe_code)]
 mod raw;
 mod refusal;
@@ -44,6 +46,7 @@ mod row;
 mod session;
 mod types;
 
+pub use candidate::{Candidate, Point, Regions};
 pub use refusal::Refusal;
 pub use row::{render, Row};
 pub use session::Session;

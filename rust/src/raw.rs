@@ -1,12 +1,33 @@
 //! The symbols of the static library, and safe functions over them. All unsafe code of the crate is here.
 //!
-//! The library takes a slice as a pointer and then a length, and `Settings` and `Block` by value; GET, the hot call,
-//! takes the settings field by field and the tables, of 256 entries each, by a pointer. It answers the
+//! The library takes a slice as a pointer and then a length, and `Settings`, `Block` and a candidate's `Shape` by value; GET,
+//! the hot call, takes the settings field by field and the tables, of 256 entries each, by a pointer. It answers the
 //! refusal's number, 0 where the call is accepted. It is proved for every length and every content, so that what is
 //! left to show for each call below is that the pointers are of slices that live through the call and that a slice
 //! lent for writing overlaps no other. Both follow from the borrows.
 
-use crate::{Block, Pictures, Planes, PlanesMut, Refusal, Report, Settings};
+use crate::{Block, Candidate, Pictures, Planes, PlanesMut, Point, Refusal, Regions, Report, Settings};
+
+/// A candidate but for its bytes. The layout is that of `luph_private_shape` in the C header.
+#[repr(C)]
+struct Shape {
+    kind: u32,
+    values: [u8; 2],
+    start: Point,
+    end: Point,
+}
+
+/// A candidate as the library takes it: its shape, and the bytes that its kind has.
+#[inline(always)]
+fn parts(candidate: Candidate<'_>) -> (Shape, &[u8]) {
+    const CORNER: Point = Point { column: 0, row: 0 };
+    match candidate {
+        Candidate::Full(depths) => (Shape { kind: 0, values: [0; 2], start: CORNER, end: CORNER }, depths),
+        Candidate::Flat(value) => (Shape { kind: 1, values: [value, 0], start: CORNER, end: CORNER }, &[]),
+        Candidate::Regions { values, regions: Regions::Line { start, end } } => (Shape { kind: 2, values, start, end }, &[]),
+        Candidate::Regions { values, regions: Regions::Mask(bits) } => (Shape { kind: 3, values, start: CORNER, end: CORNER }, bits),
+    }
+}
 
 #[rustfmt::skip]
 extern "C" {
@@ -37,7 +58,7 @@ extern "C" {
         right_samples: *const u16, right_samples_len: usize, right_fronts: *const u8, right_fronts_len: usize,
         right_limits: *const i16, right_limits_len: usize, right_marks: *const u8, right_marks_len: usize,
         combined: *const u16, combined_len: usize,
-        view: u32, block: Block, candidate: *const u8, candidate_len: usize,
+        view: u32, block: Block, shape: Shape, bytes: *const u8, bytes_len: usize,
         change: *mut i64,
     ) -> u32;
     fn luph_raw_set(
@@ -50,7 +71,7 @@ extern "C" {
         right_samples: *mut u16, right_samples_len: usize, right_fronts: *mut u8, right_fronts_len: usize,
         right_limits: *mut i16, right_limits_len: usize, right_marks: *mut u8, right_marks_len: usize,
         combined: *mut u16, combined_len: usize,
-        view: u32, block: Block, candidate: *const u8, candidate_len: usize,
+        view: u32, block: Block, shape: Shape, bytes: *const u8, bytes_len: usize,
         change: *mut i64, total: *mut u64,
     ) -> u32;
     fn luph_raw_check(
@@ -124,15 +145,16 @@ pub fn open(settings: &mut Settings, pictures: &Pictures, planes: &mut PlanesMut
 
 /// GET: how the total would change if the block of the view's depths were the candidate. Nothing is written.
 ///
-/// The candidate has width × height depths in row order. Samples above 1,023, of the pictures and of the planes, are read as
-/// 1,023. View 0 is left, view 1 right. Refuses 1, 2, 3, 4, 6, 5, 7, then 8.
+/// Samples above 1,023, of the pictures and of the planes, are read as 1,023. View 0 is left, view 1 right. Refuses 1, 2, 3, 4,
+/// 6, 5, then by the candidate's kind 7 (a full block), 14 (a line) or 15 (a mask), then 8.
 #[rustfmt::skip]
 #[inline]
 pub fn get(
-    settings: &Settings, pictures: &Pictures, planes: &Planes, view: u32, block: Block, candidate: &[u8],
+    settings: &Settings, pictures: &Pictures, planes: &Planes, view: u32, block: Block, candidate: Candidate,
 ) -> Result<i64, Refusal> {
     let Pictures { textures: [lt, rt], reference } = pictures;
     let Planes { depths: [ld, rd], samples: [ls, rs], fronts: [lf, rf], limits: [ll, rl], marks: [lm, rm], combined } = planes;
+    let (shape, bytes) = parts(candidate);
     let mut change = 0;
     // SAFETY: see above.
     let number = unsafe {
@@ -142,7 +164,7 @@ pub fn get(
             ld.as_ptr(), ld.len(), rd.as_ptr(), rd.len(),
             ls.as_ptr(), ls.len(), lf.as_ptr(), lf.len(), ll.as_ptr(), ll.len(), lm.as_ptr(), lm.len(),
             rs.as_ptr(), rs.len(), rf.as_ptr(), rf.len(), rl.as_ptr(), rl.len(), rm.as_ptr(), rm.len(),
-            combined.as_ptr(), combined.len(), view, block, candidate.as_ptr(), candidate.len(), &mut change,
+            combined.as_ptr(), combined.len(), view, block, shape, bytes.as_ptr(), bytes.len(), &mut change,
         )
     };
     accepted(number, change)
@@ -154,10 +176,11 @@ pub fn get(
 /// Reads samples and refuses as [`get`] does.
 #[rustfmt::skip]
 pub fn set(
-    settings: &mut Settings, pictures: &Pictures, planes: &mut PlanesMut, view: u32, block: Block, candidate: &[u8],
+    settings: &mut Settings, pictures: &Pictures, planes: &mut PlanesMut, view: u32, block: Block, candidate: Candidate,
 ) -> Result<i64, Refusal> {
     let Pictures { textures: [lt, rt], reference } = pictures;
     let PlanesMut { depths: [ld, rd], samples: [ls, rs], fronts: [lf, rf], limits: [ll, rl], marks: [lm, rm], combined } = planes;
+    let (shape, bytes) = parts(candidate);
     let (mut change, mut total) = (0, 0);
     // SAFETY: see above.
     let number = unsafe {
@@ -166,7 +189,7 @@ pub fn set(
             ld.as_mut_ptr(), ld.len(), rd.as_mut_ptr(), rd.len(),
             ls.as_mut_ptr(), ls.len(), lf.as_mut_ptr(), lf.len(), ll.as_mut_ptr(), ll.len(), lm.as_mut_ptr(), lm.len(),
             rs.as_mut_ptr(), rs.len(), rf.as_mut_ptr(), rf.len(), rl.as_mut_ptr(), rl.len(), rm.as_mut_ptr(), rm.len(),
-            combined.as_mut_ptr(), combined.len(), view, block, candidate.as_ptr(), candidate.len(), &mut change, &mut total,
+            combined.as_mut_ptr(), combined.len(), view, block, shape, bytes.as_ptr(), bytes.len(), &mut change, &mut total,
         )
     };
     settings.total = accepted(number, total)?;

@@ -21,17 +21,21 @@ pub enum Refusal {
     Bounds = 5,
     /// 6: a view neither 0 nor 1.
     View = 6,
-    /// 7: a candidate whose length is not width × height.
+    /// 7: a full block that does not have width × height depths.
     Candidate = 7,
     /// 8: total plus change below 0 or above 1,046,529 × w × h. It never occurs in a [`Session`](crate::Session).
     Total = 8,
+    /// 14: a line's point inside the block or outside it, or two points on one side.
+    Line = 14,
+    /// 15: a mask that does not have (width × height + 7) / 8 bytes.
+    Mask = 15,
     /// 21: a texture or reference entry above 1,023.
     Sample = 21,
 }
 
 impl Refusal {
     /// Every refusal, in the order of its number.
-    pub const ALL: [Refusal; 9] = [
+    pub const ALL: [Refusal; 11] = [
         Refusal::Size,
         Refusal::Plane,
         Refusal::Table,
@@ -40,6 +44,8 @@ impl Refusal {
         Refusal::View,
         Refusal::Candidate,
         Refusal::Total,
+        Refusal::Line,
+        Refusal::Mask,
         Refusal::Sample,
     ];
 
@@ -63,8 +69,10 @@ impl fmt::Display for Refusal {
             Refusal::Share => "the share is above 64",
             Refusal::Bounds => "the block is empty or reaches past an edge",
             Refusal::View => "the view is neither 0 nor 1",
-            Refusal::Candidate => "the candidate does not have width × height depths",
+            Refusal::Candidate => "the full block does not have width × height depths",
             Refusal::Total => "the total would leave its range",
+            Refusal::Line => "the line does not join two border points of the block that have no side in common",
+            Refusal::Mask => "the mask does not have (width × height + 7) / 8 bytes",
             Refusal::Sample => "a texture or reference sample is above 1,023",
         };
         write!(f, "refused ({}): {why}", self.number())

@@ -1,6 +1,6 @@
 //! A session that owns its planes.
 
-use crate::{lent, Block, Pictures, Planes, PlanesMut, Refusal, Report, Settings, View};
+use crate::{lent, Block, Candidate, Pictures, Planes, PlanesMut, Refusal, Report, Settings, View};
 use std::fmt;
 
 /// Two drawn views, the picture combined from them and the total of its squared errors, held for a pair of depth planes.
@@ -46,12 +46,12 @@ impl Session {
 
     /// How the total would change if the block of the view's depths were the candidate. The session stays as it is.
     ///
-    /// The candidate has width × height depths in row order.
-    ///
     /// # Errors
-    /// Refuses [`Bounds`](Refusal::Bounds), then [`Candidate`](Refusal::Candidate), and nothing else.
-    #[inline]
-    pub fn get(&self, view: View, block: Block, candidate: &[u8]) -> Result<i64, Refusal> {
+    /// Refuses [`Bounds`](Refusal::Bounds), then by the candidate's kind [`Candidate`](Refusal::Candidate) (a full block),
+    /// [`Line`](Refusal::Line) or [`Mask`](Refusal::Mask), and nothing else.
+    // Taken into every caller: passing all of it on costs fewer instructions there, and a kind that the caller knows none.
+    #[inline(always)]
+    pub fn get(&self, view: View, block: Block, candidate: Candidate) -> Result<i64, Refusal> {
         lent::get(&self.settings, &self.pictures(), &self.planes(), view as u32, block, candidate)
     }
 
@@ -59,7 +59,7 @@ impl Session {
     ///
     /// # Errors
     /// Refuses as [`get`](Session::get) does; the session then stays as it is.
-    pub fn set(&mut self, view: View, block: Block, candidate: &[u8]) -> Result<i64, Refusal> {
+    pub fn set(&mut self, view: View, block: Block, candidate: Candidate) -> Result<i64, Refusal> {
         let (settings, pictures, mut planes) = self.lent();
         lent::set(settings, &pictures, &mut planes, view as u32, block, candidate)
     }

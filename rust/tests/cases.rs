@@ -3,7 +3,7 @@
 
 mod paper;
 
-use luphwezane::{render, Block, Pictures, Refusal, Report, Session, Settings, View};
+use luphwezane::{render, Block, Candidate, Pictures, Refusal, Report, Session, Settings, View};
 
 /// Entry d is d.
 fn settings(w: u32) -> Settings {
@@ -65,11 +65,11 @@ fn session_k_to_m() {
     let mut session = Session::open(&settings, &pictures, [&[0; 4], &[0; 4]]).expect("OPEN accepts it");
     let block = Block { column: 2, row: 0, width: 1, height: 1 };
     assert_eq!(session.total(), 0);
-    assert_eq!(session.get(View::Left, block, &[4]), Ok(136), "k");
-    assert_eq!(session.get(View::Left, block, &[5]), Ok(100), "l");
-    assert_eq!(session.set(View::Left, block, &[4]), Ok(136));
-    assert_eq!(session.get(View::Left, block, &[5]), Ok(-36), "m");
-    assert_eq!(session.set(View::Left, block, &[0]), Ok(-136), "m");
+    assert_eq!(session.get(View::Left, block, Candidate::Full(&[4])), Ok(136), "k");
+    assert_eq!(session.get(View::Left, block, Candidate::Full(&[5])), Ok(100), "l");
+    assert_eq!(session.set(View::Left, block, Candidate::Full(&[4])), Ok(136));
+    assert_eq!(session.get(View::Left, block, Candidate::Full(&[5])), Ok(-36), "m");
+    assert_eq!(session.set(View::Left, block, Candidate::Full(&[0])), Ok(-136), "m");
     assert_eq!(session.total(), 0, "m");
     assert_eq!(session.check(), Report::Sound);
 }
@@ -148,13 +148,13 @@ fn largest_change(h: u32, left: u16, right: u16) {
     assert_eq!(session.total() as i64, worst);
     assert_eq!(session.check(), Report::Sound);
     let whole = Block { column: 0, row: 0, width: 4096, height: h };
-    assert_eq!(session.get(View::Left, whole, &far), Ok(0));
-    assert_eq!(session.set(View::Left, whole, &far), Ok(0));
-    assert_eq!(session.get(View::Right, whole, &near), Ok(-worst));
-    assert_eq!(session.set(View::Right, whole, &near), Ok(-worst));
+    assert_eq!(session.get(View::Left, whole, Candidate::Full(&far)), Ok(0));
+    assert_eq!(session.set(View::Left, whole, Candidate::Full(&far)), Ok(0));
+    assert_eq!(session.get(View::Right, whole, Candidate::Full(&near)), Ok(-worst));
+    assert_eq!(session.set(View::Right, whole, Candidate::Full(&near)), Ok(-worst));
     assert_eq!((session.total(), session.holes(View::Right)), (0, 0));
-    assert_eq!(session.get(View::Right, whole, &far), Ok(worst));
-    assert_eq!(session.set(View::Right, whole, &far), Ok(worst));
+    assert_eq!(session.get(View::Right, whole, Candidate::Full(&far)), Ok(worst));
+    assert_eq!(session.set(View::Right, whole, Candidate::Full(&far)), Ok(worst));
     assert_eq!(session.total() as i64, worst);
     assert_eq!(session.check(), Report::Sound);
 }
@@ -181,8 +181,8 @@ fn every_square_is_the_greatest() {
         for (view, column, width) in [(View::Left, 0, 4096), (View::Right, 0, 4096), (View::Left, 4088, 8), (View::Right, 0, 8)] {
             let block = Block { column, row: 0, width, height: 2 };
             let candidate: Vec<u8> = (0..2 * width).map(|at| (at / 3 * 91 % 256) as u8).collect();
-            assert_eq!(session.get(view, block, &candidate), Ok(0));
-            assert_eq!(session.set(view, block, &candidate), Ok(0));
+            assert_eq!(session.get(view, block, Candidate::Full(&candidate)), Ok(0));
+            assert_eq!(session.set(view, block, Candidate::Full(&candidate)), Ok(0));
             assert_eq!((session.total(), session.check()), (1_046_529 * 2 * 4096, Report::Sound));
         }
         assert_eq!(session.planes().combined, texture);

@@ -1,4 +1,4 @@
-//! Calls that no careful caller makes: wrong lengths and numbers, several at once, planes full of garbage, and samples above
+//! Calls that no careful caller makes: wrong lengths, numbers and kinds, several at once, planes full of garbage, and samples above
 //! 1,023.
 //!
 //! Every call ends, is refused exactly with the first number of its list, writes nothing where it is refused and nothing
@@ -6,12 +6,13 @@
 //!
 //!     LUPH_SEED=7 LUPH_SESSIONS=100000 cargo test --release --offline --test hostile
 
+mod boundary;
 mod paper;
 mod random;
 
 use luphwezane::{lent, Block, Pictures, Planes, Refusal, Report, Settings};
 use paper::Drawing;
-use random::{Guarded, GuardedPlanes, Random, Scene};
+use random::{Guarded, GuardedPlanes, Random, Scene, Tried};
 
 /// All that a call is passed.
 #[derive(Clone, PartialEq, Debug)]
@@ -22,7 +23,7 @@ struct Call {
     planes: GuardedPlanes,
     view: u32,
     block: Block,
-    candidate: Guarded<u8>,
+    candidate: Tried,
 }
 
 impl Call {
@@ -45,7 +46,7 @@ impl Call {
             planes,
             view: view as u32,
             block,
-            candidate: Guarded::new(&candidate, 0x3c),
+            candidate,
         }
     }
 
@@ -56,21 +57,36 @@ impl Call {
 
     /// Numbers of the call's list but 8.
     fn number(&self) -> u32 {
-        paper::call_number(&self.settings, &self.pictures(), &self.planes.shared(), self.view, self.block, self.candidate.entries())
+        paper::call_number(&self.settings, &self.pictures(), &self.planes.shared(), self.view, self.block, self.candidate.candidate())
     }
 
     fn common_number(&self) -> u32 {
         paper::common_number(&self.settings, &self.pictures(), &self.planes.shared())
     }
 
+    /// GET through the library's symbol, and through the crate where the kind is known: both answer alike.
     fn get(&self) -> Result<i64, Refusal> {
-        lent::get(&self.settings, &self.pictures(), &self.planes.shared(), self.view, self.block, self.candidate.entries())
+        let (pictures, planes) = (self.pictures(), self.planes.shared());
+        let answer = boundary::get(&self.settings, &pictures, &planes, self.view, self.block, &self.candidate);
+        if let Some(candidate) = self.candidate.known() {
+            assert_eq!(lent::get(&self.settings, &pictures, &planes, self.view, self.block, candidate), answer);
+        }
+        answer
     }
 
     fn set(&mut self) -> Result<i64, Refusal> {
-        let [left, right] = &self.textures;
-        let pictures = Pictures { textures: [left.entries(), right.entries()], reference: self.reference.entries() };
-        lent::set(&mut self.settings, &pictures, &mut self.planes.lent(), self.view, self.block, self.candidate.entries())
+        let Call { settings, textures: [left, right], reference, planes, view, block, candidate } = self;
+        let pictures = Pictures { textures: [left.entries(), right.entries()], reference: reference.entries() };
+        match candidate.known() {
+            Some(candidate) => lent::set(settings, &pictures, &mut planes.lent(), *view, *block, candidate),
+            None => boundary::set(settings, &pictures, &mut planes.lent(), *view, *block, candidate),
+        }
+    }
+
+    /// The same call with the candidate as a full block; nothing where the candidate is refused.
+    fn as_full(&self) -> Option<Call> {
+        let taken = self.number() == 0;
+        taken.then(|| Call { candidate: self.candidate.as_full(self.block), ..self.clone() })
     }
 
     fn open(&mut self) -> Result<(), Refusal> {
@@ -112,7 +128,7 @@ impl Call {
 
     /// One thing made wrong, or at least different.
     fn spoil(&mut self, random: &mut Random) {
-        match random.between(0, 12) {
+        match random.between(0, 14) {
             0 => self.settings.w = random.pick(&[0, 4097, self.settings.w.wrapping_add(65536), u32::MAX]),
             1 => self.settings.h = random.pick(&[0, 4097, self.settings.h.wrapping_add(65536), u32::MAX]),
             2 => std::mem::swap(&mut self.settings.w, &mut self.settings.h),
@@ -132,8 +148,13 @@ impl Call {
                 };
                 *number = random.pick(&[0, 1, 4096, 65536, u32::MAX - 1, u32::MAX, 0u32.wrapping_sub(*number)]);
             }
-            10 => self.candidate = resized(random, &self.candidate),
-            11 => {
+            10 => self.candidate.bytes = resized(random, &self.candidate.bytes),
+            11 => self.candidate.kind = random::kind(random),
+            12 => {
+                self.candidate.kind = 2;
+                (self.candidate.start, self.candidate.end) = random::refused_line(random, self.block);
+            }
+            13 => {
                 let picture = &mut self.pictures_mut()[random.between(0, 2)];
                 if let Some(last) = picture.len().checked_sub(1) {
                     picture[random.between(0, last)] = random.high();
@@ -180,9 +201,10 @@ fn answered(call: &Call, answer: Result<i64, Refusal>) {
     }
 }
 
-/// GET, then SET, of a call whose planes may be those of no session: both answer as where every sample is what they read.
+/// GET, then SET, of a call whose planes may be those of no session: both answer as where every sample is what they read, and as
+/// for the full block that the candidate fills.
 fn edit(call: &mut Call) {
-    let (before, mut read) = (call.clone(), call.read());
+    let (before, mut read, full) = (call.clone(), call.read(), call.as_full());
     answered(call, call.get());
     assert_eq!(call.get(), read.get());
     assert!(*call == before, "GET wrote");
@@ -190,6 +212,10 @@ fn edit(call: &mut Call) {
     answered(&before, answer);
     assert_eq!(answer, read.set());
     assert!(call.planes.are_intact(), "a guard was written");
+    if let Some(mut full) = full {
+        assert_eq!((full.get(), full.set()), (before.get(), answer));
+        assert!((full.settings, &full.planes) == (call.settings, &call.planes), "SET of the full block ends otherwise");
+    }
     match answer {
         Err(_) => assert!(*call == before, "a refused SET wrote"),
         Ok(change) => {
@@ -218,7 +244,7 @@ fn compare_any(before: &Call, after: &Call, change: i64) {
     let total = (i128::from(settings.total) + i128::from(change)) as u64;
     assert_eq!(after.settings, Settings { total, ..*settings });
     let (old, new) = (before.planes.shared(), after.planes.shared());
-    assert_eq!(new.depths, paper::written(settings, old.depths, v, *block, before.candidate.entries()));
+    assert_eq!(new.depths, paper::written(settings, old.depths, v, *block, before.candidate.candidate()));
     let other = 1 - v;
     assert_eq!(new.samples[other], old.samples[other]);
     assert_eq!(new.fronts[other], old.fronts[other]);
@@ -342,7 +368,7 @@ fn garbage_planes() {
             call.view = random.between(0, 1) as u32;
             let depths = call.planes.shared().depths[call.view as usize];
             call.block = random::edited_block(random, &call.settings, call.view as usize, depths);
-            call.candidate = Guarded::new(&random::candidate(random, w, depths, call.block), 0x3c);
+            call.candidate = random::candidate(random, w, depths, call.block);
         }
         opened(call);
     });
@@ -366,7 +392,7 @@ fn edit_raised(mut call: Call) {
     let before = call.clone();
     let (v, block, settings) = (call.view as usize, call.block, call.settings);
     let old = before.planes.shared();
-    let depths = paper::written(&settings, old.depths, v, block, call.candidate.entries());
+    let depths = paper::written(&settings, old.depths, v, block, call.candidate.candidate());
     let fresh = paper::drawing(&settings, &call.pictures(), [&depths[0], &depths[1]]);
     let change = fresh.total as i64 - settings.total as i64;
     assert_eq!(call.get(), Ok(change));

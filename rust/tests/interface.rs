@@ -1,6 +1,6 @@
 //! What a caller of the Rust crate sees besides the answers: refusals as errors, and a session's planes.
 
-use luphwezane::{Block, Pictures, Refusal, Report, Session, Settings, View, GREATEST_SAMPLE};
+use luphwezane::{Block, Candidate, Pictures, Point, Refusal, Regions, Report, Session, Settings, View, GREATEST_SAMPLE};
 use std::error::Error;
 use std::mem::{align_of, offset_of, size_of};
 
@@ -13,8 +13,10 @@ fn refusals_have_numbers_and_words() {
         (Refusal::Share, 4, "refused (4): the share is above 64"),
         (Refusal::Bounds, 5, "refused (5): the block is empty or reaches past an edge"),
         (Refusal::View, 6, "refused (6): the view is neither 0 nor 1"),
-        (Refusal::Candidate, 7, "refused (7): the candidate does not have width × height depths"),
+        (Refusal::Candidate, 7, "refused (7): the full block does not have width × height depths"),
         (Refusal::Total, 8, "refused (8): the total would leave its range"),
+        (Refusal::Line, 14, "refused (14): the line does not join two border points of the block that have no side in common"),
+        (Refusal::Mask, 15, "refused (15): the mask does not have (width × height + 7) / 8 bytes"),
         (Refusal::Sample, 21, "refused (21): a texture or reference sample is above 1,023"),
     ];
     assert_eq!(Refusal::ALL, refusals.map(|(refusal, ..)| refusal));
@@ -24,7 +26,7 @@ fn refusals_have_numbers_and_words() {
         let error: Box<dyn Error + Send + Sync> = refusal.into();
         assert_eq!(error.to_string(), words);
     }
-    for number in [0, 9, 20, 22, 277, u32::MAX] {
+    for number in [0, 9, 13, 16, 20, 22, 263, 277, u32::MAX] {
         assert_eq!(Refusal::from_number(number), None);
     }
 }
@@ -36,6 +38,8 @@ fn layouts_and_constants() {
     assert_eq!([offset_of!(Settings, w), offset_of!(Settings, h), offset_of!(Settings, left), offset_of!(Settings, right)], [0, 4, 8, 520]);
     assert_eq!([offset_of!(Settings, share), offset_of!(Settings, tolerance), offset_of!(Settings, total)], [1032, 1033, 1040]);
     assert_eq!((size_of::<Block>(), align_of::<Block>()), (16, 4));
+    assert_eq!((size_of::<Point>(), align_of::<Point>()), (8, 4));
+    assert_eq!([offset_of!(Point, column), offset_of!(Point, row)], [0, 4]);
     assert_eq!(GREATEST_SAMPLE, 1023);
 }
 
@@ -48,22 +52,48 @@ fn session() -> Session {
 }
 
 #[test]
-fn a_session_refuses_5_and_7_and_stays() {
+fn a_session_refuses_5_7_14_and_15_and_stays() {
     let mut session = session();
     let block = |column, row, width, height| Block { column, row, width, height };
     for wrong in [block(8, 0, 2, 1), block(0, 1, 1, 2), block(0, 0, 0, 1), block(0, 0, 1, 0), block(u32::MAX, 0, 1, 1)] {
-        assert_eq!(session.get(View::Left, wrong, &[0, 0]), Err(Refusal::Bounds));
-        assert_eq!(session.set(View::Right, wrong, &[0, 0]), Err(Refusal::Bounds));
+        for candidate in [Candidate::Full(&[0, 0]), Candidate::Flat(0), Candidate::mask(&[0], [0; 2])] {
+            assert_eq!(session.get(View::Left, wrong, candidate), Err(Refusal::Bounds));
+            assert_eq!(session.set(View::Right, wrong, candidate), Err(Refusal::Bounds));
+        }
     }
-    assert_eq!(session.get(View::Left, block(0, 0, 2, 1), &[0]), Err(Refusal::Candidate));
-    assert_eq!(session.set(View::Left, block(0, 0, 2, 1), &[]), Err(Refusal::Candidate));
+    assert_eq!(session.get(View::Left, block(0, 0, 2, 1), Candidate::Full(&[0])), Err(Refusal::Candidate));
+    assert_eq!(session.set(View::Left, block(0, 0, 2, 1), Candidate::Full(&[])), Err(Refusal::Candidate));
+    let line = Candidate::line(Point { column: 0, row: 0 }, Point { column: 0, row: 1 }, [1, 2]);
+    assert_eq!(session.get(View::Left, block(0, 0, 2, 2), line), Err(Refusal::Line));
+    assert_eq!(session.set(View::Left, block(0, 0, 2, 2), line), Err(Refusal::Line));
+    assert_eq!(session.get(View::Left, block(0, 0, 9, 1), Candidate::mask(&[0], [1, 2])), Err(Refusal::Mask));
+    assert_eq!(session.set(View::Left, block(0, 0, 9, 1), Candidate::mask(&[0; 3], [1, 2])), Err(Refusal::Mask));
     assert_eq!((session.total(), session.check()), (0, Report::Sound));
+}
+
+/// A candidate is small, can be copied and compared, and is a value that a constant may have.
+#[test]
+fn candidates_are_values() {
+    const LINE: Candidate = Candidate::line(Point { column: 0, row: 3 }, Point { column: 7, row: 0 }, [10, 20]);
+    const MASK: Candidate = Candidate::mask(&[0x0f], [30, 40]);
+    let Candidate::Regions { values, regions } = LINE else { panic!("a line has two regions") };
+    assert_eq!((values, regions), ([10, 20], Regions::Line { start: Point { column: 0, row: 3 }, end: Point { column: 7, row: 0 } }));
+    assert_eq!(MASK, Candidate::Regions { values: [30, 40], regions: Regions::Mask(&[0x0f]) });
+    assert_ne!(MASK, Candidate::mask(&[0x0f], [40, 30]));
+    let mut session = session();
+    let block = Block { column: 0, row: 0, width: 8, height: 1 };
+    for candidate in [MASK, Candidate::Flat(7), Candidate::Full(&[7; 8])] {
+        assert_eq!(session.get(View::Left, block, candidate), session.set(View::Left, block, candidate));
+    }
+    assert_eq!(session.planes().depths[0][..9], [7, 7, 7, 7, 7, 7, 7, 7, 0]);
+    assert!(format!("{LINE:?}").starts_with("Regions { values: [10, 20], regions: Line {"));
+    assert!(size_of::<Candidate>() <= 40);
 }
 
 #[test]
 fn every_plane_can_be_read() {
     let mut session = session();
-    session.set(View::Left, Block { column: 8, row: 1, width: 1, height: 1 }, &[9]).expect("SET accepts it");
+    session.set(View::Left, Block { column: 8, row: 1, width: 1, height: 1 }, Candidate::Full(&[9])).expect("SET accepts it");
     let planes = session.planes();
     assert_eq!(planes.depths[0][17], 9);
     assert_eq!(planes.depths[1], [0; 18]);
@@ -89,7 +119,7 @@ fn a_hole_outside_the_picture_is_a_mistake() {
 fn sessions_can_be_copied_and_sent() {
     let mut session = session();
     let copy = session.clone();
-    session.set(View::Right, Block { column: 3, row: 0, width: 2, height: 2 }, &[40; 4]).expect("SET accepts it");
+    session.set(View::Right, Block { column: 3, row: 0, width: 2, height: 2 }, Candidate::Flat(40)).expect("SET accepts it");
     let check = std::thread::spawn(move || copy.check());
     assert_eq!(check.join().expect("the thread ends"), Report::Sound);
     assert_eq!(session.check(), Report::Sound);

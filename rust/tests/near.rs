@@ -3,7 +3,7 @@
 
 mod paper;
 
-use luphwezane::{render, Block, Pictures, Report, Session, Settings, View};
+use luphwezane::{render, Block, Candidate, Pictures, Report, Session, Settings, View};
 use paper::{reversed, Drawing, LeftRow, Pixel};
 use std::collections::BTreeSet;
 
@@ -178,12 +178,12 @@ fn edits_by_hand() {
             let shown = |session: &Session| stored(view, session.planes().combined)[1];
             let change = (sample - 20_i64).pow(2);
             assert_eq!(shown(&session), 20);
-            assert_eq!(session.get(view, block, &[0]), Ok(change), "{view:?}, {depths:?}");
-            assert_eq!(session.set(view, block, &[0]), Ok(change));
+            assert_eq!(session.get(view, block, Candidate::Full(&[0])), Ok(change), "{view:?}, {depths:?}");
+            assert_eq!(session.set(view, block, Candidate::Full(&[0])), Ok(change));
             assert_eq!(i64::from(shown(&session)), sample);
-            assert_eq!(session.get(view, block, &[2]), Ok(0), "{view:?}, {depths:?}");
-            assert_eq!(session.get(view, block, &[3]), Ok(-change));
-            assert_eq!(session.set(view, block, &[3]), Ok(-change));
+            assert_eq!(session.get(view, block, Candidate::Full(&[2])), Ok(0), "{view:?}, {depths:?}");
+            assert_eq!(session.get(view, block, Candidate::Full(&[3])), Ok(-change));
+            assert_eq!(session.set(view, block, Candidate::Full(&[3])), Ok(-change));
             assert_eq!(session.check(), Report::Sound);
         }
     }
@@ -219,10 +219,15 @@ fn every_small_edit() {
                         let after = n / whole * whole + k * part + n % part;
                         let candidate = stored(view, &rows[after][a..=b]);
                         let change = drawings[after].total as i64 - drawings[n].total as i64;
-                        assert_eq!(session.get(view, block, &candidate), Ok(change), "{view:?}, {depths:?}, {:?}", rows[after]);
-                        assert_eq!(session.set(view, block, &candidate), Ok(change));
+                        assert_eq!(
+                            session.get(view, block, Candidate::Full(&candidate)),
+                            Ok(change),
+                            "{view:?}, {depths:?}, {:?}",
+                            rows[after]
+                        );
+                        assert_eq!(session.set(view, block, Candidate::Full(&candidate)), Ok(change));
                         compare(&session, view, &drawings[after]);
-                        assert_eq!(session.set(view, block, &own), Ok(-change));
+                        assert_eq!(session.set(view, block, Candidate::Full(&own)), Ok(-change));
                         reached.extend(distance(&row(n), &row(after), a, b).map(|far| (view as usize, far)));
                     }
                     compare(&session, view, &drawings[n]);
@@ -252,7 +257,7 @@ fn farthest_columns() {
                     let mut after = depths.clone();
                     after[a..=b].fill(depth);
                     let change = stage.drawing(&after).total as i64 - fresh.total as i64;
-                    let answer = session.get(view, block(view, w, a, b), &after[a..=b]);
+                    let answer = session.get(view, block(view, w, a, b), Candidate::Full(&after[a..=b]));
                     assert_eq!(answer, Ok(change), "{view:?}, {near}, {next}, {left}, {a} to {b}, {depth}");
                     let [old, new] = [&depths, &after].map(|depths| LeftRow { table: &table, texture: &texture, depths });
                     reached.extend(distance(&old, &new, a, b).map(|far| (view as usize, far)));

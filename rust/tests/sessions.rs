@@ -5,12 +5,14 @@
 //!
 //!     LUPH_SEED=7 LUPH_SESSIONS=100000 cargo test --release --offline --test sessions
 
+mod boundary;
 mod paper;
 mod random;
 
-use luphwezane::{lent, Block, Pictures, Planes, Refusal, Report, Session, Settings, View};
+use luphwezane::{lent, Block, Candidate, Pictures, Planes, Refusal, Report, Session, Settings, View};
 use paper::Drawing;
-use random::{Guarded, GuardedPlanes, Random, Scene};
+use random::{Guarded, GuardedPlanes, Random, Scene, Tried};
+use std::collections::BTreeSet;
 
 /// A session under test, and the plain record that it is matched with.
 struct Run {
@@ -74,23 +76,35 @@ impl Run {
         assert_eq!(planes.combined, self.fresh.combined, "combined picture");
     }
 
-    fn get(&self, view: View, block: Block, candidate: &[u8]) -> i64 {
+    /// GET by both, and through the library's symbol: each answers the same for the candidate and for the full block that it
+    /// fills.
+    fn get(&self, view: View, block: Block, tried: &Tried) -> i64 {
+        let candidate = tried.candidate();
         let depths = paper::written(&self.settings, self.record(), view as usize, block, candidate);
         let change = self.drawing(&depths).total as i64 - self.fresh.total as i64;
-        let (pictures, planes) = (self.scene.pictures(), self.planes.shared());
-        assert_eq!(lent::get(&self.settings, &pictures, &planes, view as u32, block, candidate), Ok(change));
-        assert_eq!(self.session.get(view, block, candidate), Ok(change));
+        let (pictures, planes, full) = (self.scene.pictures(), self.planes.shared(), paper::filled(block, candidate));
+        assert_eq!(boundary::get(&self.settings, &pictures, &planes, view as u32, block, tried), Ok(change));
+        for candidate in [candidate, Candidate::Full(&full)] {
+            assert_eq!(lent::get(&self.settings, &pictures, &planes, view as u32, block, candidate), Ok(change));
+            assert_eq!(self.session.get(view, block, candidate), Ok(change));
+        }
         self.compare();
         change
     }
 
-    fn set(&mut self, view: View, block: Block, candidate: &[u8]) -> i64 {
+    /// SET by both, by one of them as a full block.
+    fn set(&mut self, random: &mut Random, view: View, block: Block, tried: &Tried) -> i64 {
+        let candidate = tried.candidate();
         let depths = paper::written(&self.settings, self.record(), view as usize, block, candidate);
         let fresh = self.drawing(&depths);
         let change = fresh.total as i64 - self.fresh.total as i64;
-        let (pictures, mut planes) = (self.scene.pictures(), self.planes.lent());
-        assert_eq!(lent::set(&mut self.settings, &pictures, &mut planes, view as u32, block, candidate), Ok(change));
-        assert_eq!(self.session.set(view, block, candidate), Ok(change));
+        let (pictures, mut planes, full) = (self.scene.pictures(), self.planes.lent(), paper::filled(block, candidate));
+        let mut candidates = [candidate, Candidate::Full(&full)];
+        if random.once_in(2) {
+            candidates.reverse();
+        }
+        assert_eq!(lent::set(&mut self.settings, &pictures, &mut planes, view as u32, block, candidates[0]), Ok(change));
+        assert_eq!(self.session.set(view, block, candidates[1]), Ok(change));
         let before = (std::mem::replace(&mut self.record, depths), std::mem::replace(&mut self.fresh, fresh));
         self.compare();
         self.compare_span(view as usize, block, &before.0, &before.1);
@@ -123,21 +137,26 @@ impl Run {
         }
     }
 
-    /// A call of a run that meets 5, 6 or 7: it is refused and all stays.
-    fn refused(&mut self, view: u32, block: Block, candidate: &[u8]) {
+    /// A call of a run that meets 5, 6, 7, 14 or 15: it is refused and all stays. Kinds that are unknown can be passed through
+    /// the library's symbols only.
+    fn refused(&mut self, view: u32, block: Block, tried: &Tried) {
         let (pictures, planes) = (self.scene.pictures(), self.planes.shared());
-        let number = paper::call_number(&self.settings, &pictures, &planes, view, block, candidate);
+        let number = paper::call_number(&self.settings, &pictures, &planes, view, block, tried.candidate());
         let refusal = Refusal::from_number(number).expect("the call is to be refused");
-        assert_eq!(lent::get(&self.settings, &pictures, &planes, view, block, candidate), Err(refusal));
-        assert_eq!(lent::set(&mut self.settings, &pictures, &mut self.planes.lent(), view, block, candidate), Err(refusal));
-        if let Some(view) = View::BOTH.into_iter().find(|v| *v as u32 == view) {
-            assert_eq!(self.session.get(view, block, candidate), Err(refusal));
-            assert_eq!(self.session.set(view, block, candidate), Err(refusal));
+        assert_eq!(boundary::get(&self.settings, &pictures, &planes, view, block, tried), Err(refusal));
+        assert_eq!(boundary::set(&mut self.settings, &pictures, &mut self.planes.lent(), view, block, tried), Err(refusal));
+        if let Some(candidate) = tried.known() {
+            assert_eq!(lent::get(&self.settings, &pictures, &self.planes.shared(), view, block, candidate), Err(refusal));
+            assert_eq!(lent::set(&mut self.settings, &pictures, &mut self.planes.lent(), view, block, candidate), Err(refusal));
+            if let Some(view) = View::BOTH.into_iter().find(|v| *v as u32 == view) {
+                assert_eq!(self.session.get(view, block, candidate), Err(refusal));
+                assert_eq!(self.session.set(view, block, candidate), Err(refusal));
+            }
         }
         self.compare();
     }
 
-    fn any_edit(&self, random: &mut Random) -> (View, Block, Vec<u8>) {
+    fn any_edit(&self, random: &mut Random) -> (View, Block, Tried) {
         let view = random.pick(&View::BOTH);
         let depths = &self.record[view as usize];
         let block = random::edited_block(random, &self.settings, view as usize, depths);
@@ -156,7 +175,7 @@ impl Run {
             }
         }
         if random.once_in(2) {
-            assert_eq!(self.set(view, block, &best), least);
+            assert_eq!(self.set(random, view, block, &best), least);
         }
     }
 
@@ -166,24 +185,29 @@ impl Run {
         let (w, before) = (self.settings.w as usize, self.fresh.clone());
         let rows = block.row as usize..(block.row + block.height) as usize;
         let row = |y: usize| &self.record[view as usize][y * w + block.column as usize..][..block.width as usize];
-        let old: Vec<u8> = rows.flat_map(|y| row(y).to_vec()).collect();
-        assert_eq!(self.set(view, block, &old), 0);
-        let change = self.set(view, block, &candidate);
-        assert_eq!(self.set(view, block, &old), -change);
+        let old = random::full(&rows.flat_map(|y| row(y).to_vec()).collect::<Vec<u8>>());
+        assert_eq!(self.set(random, view, block, &old), 0);
+        let change = self.set(random, view, block, &candidate);
+        assert_eq!(self.set(random, view, block, &old), -change);
         assert_eq!(self.fresh, before);
     }
 
     fn any_refused(&mut self, random: &mut Random) {
         let (view, mut block, mut candidate) = self.any_edit(random);
+        if random.once_in(2) {
+            candidate = random::refused_candidate(random, self.settings.w as usize, &self.record[view as usize], block);
+            return self.refused(view as u32, block, &candidate);
+        }
         let mut view = view as u32;
-        match random.between(0, 6) {
+        match random.between(0, 4) {
             0 => view = random.pick(&[2, 3, 255, 256, u32::MAX]),
             1 => block.width = 0,
             2 => block.height = 0,
             3 => block.column = random.pick(&[self.settings.w, u32::MAX, u32::MAX - block.width + 1]),
-            4 => block.row = random.pick(&[self.settings.h, u32::MAX, u32::MAX - block.height + 1]),
-            5 => candidate.push(0),
-            _ => drop(candidate.pop()),
+            _ => block.row = random.pick(&[self.settings.h, u32::MAX, u32::MAX - block.height + 1]),
+        }
+        if random.once_in(3) {
+            candidate.kind = random::kind(random);
         }
         self.refused(view, block, &candidate);
     }
@@ -196,7 +220,7 @@ impl Run {
             }
             3..=5 => {
                 let (view, block, candidate) = self.any_edit(random);
-                self.set(view, block, &candidate);
+                self.set(random, view, block, &candidate);
             }
             6 | 7 => self.tried(random),
             8 => self.taken_back(random),
@@ -281,6 +305,52 @@ fn refused_open(random: &mut Random, scene: &Scene) {
     assert_eq!(lent::open(&mut settings, &pictures, &mut planes.lent()), Err(refusal));
     assert!((settings, planes) == before, "a refused OPEN wrote");
     assert_eq!(Session::open(&settings, &pictures, scene.depths()).map(|_| ()), Err(refusal));
+}
+
+/// What random candidates are: kind and number, and of lines how many ends are corners, which ends of a refused one are inside
+/// the block or outside it, and whether the block has one column or row.
+#[test]
+fn random_candidates_are_of_every_kind() {
+    let (random, mut reached) = (&mut Random::new(1, 0), BTreeSet::new());
+    for _ in 0..20_000 {
+        let (w, h) = (random.between(1, 9), random.between(1, 9));
+        let (depths, block) = (random.bytes(w * h), random::block(random, w, h));
+        let taken = random::candidate(random, w, &depths, block);
+        assert_eq!(paper::candidate_number(block, taken.candidate()), 0, "{taken:?} in {block:?}");
+        let refused = random::refused_candidate(random, w, &depths, block);
+        assert_ne!(paper::candidate_number(block, refused.candidate()), 0, "{refused:?} in {block:?}");
+        for tried in [taken, refused] {
+            let number = paper::candidate_number(block, tried.candidate());
+            let sides = [tried.start, tried.end].map(|point| paper::sides(block, point).iter().filter(|on| **on).count());
+            let within = [tried.start, tried.end].map(|point| point.column < block.width && point.row < block.height);
+            let what = match tried.kind {
+                2 if number == 0 => format!("line, {} corners", sides.iter().filter(|&&count| count == 2).count()),
+                2 if block.width == 1 || block.height == 1 => "line in one column or row".to_string(),
+                2 if within == [true, true] && sides.iter().all(|&count| count > 0) => "line on one side".to_string(),
+                2 => format!("line, within {within:?}"),
+                kind => format!("kind {}", kind.min(4)),
+            };
+            reached.insert((number, what));
+        }
+    }
+    let expected = [
+        (0, "kind 0"),
+        (0, "kind 1"),
+        (0, "kind 3"),
+        (0, "line, 0 corners"),
+        (0, "line, 1 corners"),
+        (0, "line, 2 corners"),
+        (7, "kind 0"),
+        (7, "kind 4"),
+        (14, "line in one column or row"),
+        (14, "line on one side"),
+        (14, "line, within [false, false]"),
+        (14, "line, within [false, true]"),
+        (14, "line, within [true, false]"),
+        (14, "line, within [true, true]"),
+        (15, "kind 3"),
+    ];
+    assert_eq!(reached, expected.map(|(number, what)| (number, what.to_string())).into());
 }
 
 /// Shares and tolerances take all their values in turn.

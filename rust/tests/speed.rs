@@ -1,5 +1,6 @@
 //! The speed program, shortly: the library, the full redraw and the span renderer must answer alike, also in the calls whose
-//! instructions are counted, and HOLES must count as both ways of counting do.
+//! instructions are counted, a candidate of any kind as the full block that it fills, and HOLES must count as both ways of
+//! counting do.
 
 use std::process::{Command, Output};
 
@@ -17,6 +18,7 @@ fn all_three_answer_alike() {
     let said = said(&speed(&["--short"]));
     assert!(
         said.contains("GET / span renderer at 4 × 4, 8 × 8, 64 × 64: ")
+            && said.contains("| GET / GET of the same full block | one value | a line | a mask |\n")
             && said.contains("HOLES / by the word at 1,024 and 1,001 columns: ")
     );
 }
@@ -36,6 +38,19 @@ fn counted_calls() {
         assert_eq!(sum(call, "full redraw"), library, "{call}");
     }
     assert_eq!(sum("GET refused", "the library"), format!("{}\n", -7 * 1600));
+}
+
+#[test]
+fn counted_calls_by_kind() {
+    for kind in ["one value", "a line", "a mask"] {
+        for side in [4, 8, 64] {
+            let call = format!("GET of {kind} at {side} × {side}");
+            let library = sum(&call, "the library");
+            assert_eq!(sum(&format!("{call} as a full block"), "the library"), library, "{call}");
+            assert_eq!(sum(&call, "span renderer"), library, "{call}");
+        }
+    }
+    assert_eq!(sum("GET of one value at 1 × 1", "the library"), sum("GET of one value at 1 × 1", "full redraw"));
 }
 
 #[test]

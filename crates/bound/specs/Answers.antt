@@ -4,6 +4,7 @@ use mathlib.Core.Path.{_≡_}
 use mathlib.Core.List.{List}
 use Rattle.model.specs.declared.Settings.{Settings}
 use Rattle.model.specs.declared.Block.{Block}
+use Rattle.model.specs.declared.Candidate.{Candidate}
 use Rattle.model.specs.declared.Trial.{Trial}
 use Rattle.model.specs.Planes.{Pictures, Depths}
 use Rattle.model.specs.Refusals.{numberOf}
@@ -14,8 +15,8 @@ use Rattle.bound.specs.declared.Visit.{Visit}
 abbrev pub replyOf : Trial → Reply
 replyOf r = record { number = numberOf (r .refusal); change = r .change }
 
--- Where OPEN was accepted, GET, SET and GET answer what the plain record of the run answers.
-pub record Visited (s : Settings) (p : Pictures) (d : Depths) (v : ℕ) (b : Block) (c e : List ℕ) (r : Visit) : Type 0 where
-  pub tried : numberOf (r .opened) ≡ 0 → replyOf (r .tried) ≡ plainReply s p d (get v b c)
-  pub chosen : numberOf (r .opened) ≡ 0 → replyOf (r .chosen) ≡ plainReply s p d (set v b e)
-  pub again : numberOf (r .opened) ≡ 0 → replyOf (r .again) ≡ plainReply s p (plainNext s d (set v b e)) (get v b c)
+-- Where OPEN was accepted, GET, SET and GET answer what the plain record of the run answers. x and y are the bytes lent with the candidates c and e.
+pub record Visited (s : Settings) (p : Pictures) (d : Depths) (v : ℕ) (b : Block) (c : Candidate) (x : List ℕ) (e : Candidate) (y : List ℕ) (r : Visit) : Type 0 where
+  pub tried : numberOf (r .opened) ≡ 0 → replyOf (r .tried) ≡ plainReply s p d (get v b c x)
+  pub chosen : numberOf (r .opened) ≡ 0 → replyOf (r .chosen) ≡ plainReply s p d (set v b e y)
+  pub again : numberOf (r .opened) ≡ 0 → replyOf (r .again) ≡ plainReply s p (plainNext s d (set v b e y)) (get v b c x)

@@ -1,5 +1,6 @@
 // A caller that goes by the theorem of a run alone: a session opened, a candidate tried, another one set, and the first tried again.
 use model::Block;
+use model::Candidate;
 use model::Refusal;
 use model::Settings;
 use model::Trial;
@@ -14,7 +15,7 @@ pub struct Visit {
     pub again: Trial,
 }
 
-// OPEN, then GET of `first`, SET of `second` and GET of `first` again, all for one block of one view.
+// OPEN, then GET of `first`, SET of `second` and GET of `first` again, all for one block of one view; each candidate with the bytes that are lent beside it.
 pub fn open_and_try(
     settings: Settings,
     left: &[u16],
@@ -33,10 +34,12 @@ pub fn open_and_try(
     combined: &mut [u16],
     view: u32,
     block: Block,
-    first: &[u8],
-    second: &[u8],
+    first: Candidate,
+    firstBytes: &[u8],
+    second: Candidate,
+    secondBytes: &[u8],
 ) -> Visit
-    ensures { λ r. ⌜ Visited settings (planes.pictures (now (left .entry)) (now (right .entry)) (now (reference .entry))) (planes.depths (now (leftDepths .entry)) (now (rightDepths .entry))) view block (now (first .entry)) (now (second .entry)) r ⌝ }
+    ensures { λ r. ⌜ Visited settings (planes.pictures (now (left .entry)) (now (right .entry)) (now (reference .entry))) (planes.depths (now (leftDepths .entry)) (now (rightDepths .entry))) view block first (now (firstBytes .entry)) second (now (secondBytes .entry)) r ⌝ }
 {
     let opened = open::open(
         settings,
@@ -88,6 +91,7 @@ pub fn open_and_try(
         view,
         block,
         first,
+        firstBytes,
     );
     let edited = set::set(
         start,
@@ -108,6 +112,7 @@ pub fn open_and_try(
         view,
         block,
         second,
+        secondBytes,
     );
     let next = edited.settings;
     let again = get::get(
@@ -129,6 +134,7 @@ pub fn open_and_try(
         view,
         block,
         first,
+        firstBytes,
     );
     let answer = edited.refusal;
     let change = edited.change;

@@ -5,11 +5,12 @@ use Rattle.model.specs.Row.{place, least, limit, owner, kindOf, stepOf, taps1, 
 use Rattle.model.specs.Views.{seen, viewRow}
 use Rattle.model.specs.Combined.{shared, bothShown, bothHoles, combinedOf, squareError}
 use Rattle.model.specs.Fresh.{freshRow, freshSample, freshCombined, totalOf, freshTotal}
+use Rattle.model.specs.Candidates.{cross, inRegion1, filled, onBorder, sideShared, lineOk}
 use Rattle.model.specs.Blocks.{inBlock, writtenPlane, written, changeOf}
-use Rattle.model.specs.Refusals.{blockOk, ownThen}
+use Rattle.model.specs.Refusals.{blockOk, candidateThen, ownThen}
 use Rattle.run.specs.Run.{plainNext, plainAnswer, plainReply}
 use Rattle.cases.specs.Cases.{identity, four, settings, opening, images, cases, same, holdsFrom, holds, allHold}
 
 pub cases-hold : T (allHold cases)
-unfolding identity four settings opening images cases same holdsFrom holds allHold listFrom rows rowOf sumTo place least limit owner kindOf stepOf taps1 taps2 taps3 repeated sampleIn read weighted filtered mixed smoothPixel tornPixel lastPixel pairPixel ownedPixel placedAt nearEdge shownPixel pixelAt limitAt leftRow seen viewRow shared bothShown bothHoles combinedOf squareError freshRow freshSample freshCombined totalOf freshTotal inBlock writtenPlane written changeOf blockOk ownThen plainNext plainAnswer plainReply
+unfolding identity four settings opening images cases same holdsFrom holds allHold listFrom rows rowOf sumTo place least limit owner kindOf stepOf taps1 taps2 taps3 repeated sampleIn read weighted filtered mixed smoothPixel tornPixel lastPixel pairPixel ownedPixel placedAt nearEdge shownPixel pixelAt limitAt leftRow seen viewRow shared bothShown bothHoles combinedOf squareError freshRow freshSample freshCombined totalOf freshTotal inBlock writtenPlane written changeOf cross inRegion1 filled onBorder sideShared lineOk blockOk candidateThen ownThen plainNext plainAnswer plainReply
 cases-hold = tt

@@ -1,5 +1,5 @@
--- The definitions that the small rows do not reach compute too: packed marks, hole counts, every filter, near edges, and, on the session of document 01
--- (4 × 1, depths 0), spans, refusals and CHECK's report.
+-- The definitions that the small rows do not reach compute too: packed marks, hole counts, every filter, near edges, filled blocks and lines, and, on
+-- the session of document 01 (4 × 1, depths 0), spans, refusals and CHECK's report.
 use Prim.Native.Nat.{ℕ}
 use mathlib.Core.Path.{_≡_, refl}
 use mathlib.Core.Bool.{Bool, true, false}
@@ -8,6 +8,10 @@ use lib.ListN.{length}
 use lib.IntN.{pos}
 use Rattle.model.specs.declared.Settings.{Settings}
 use Rattle.model.specs.declared.Block.{Block}
+use Rattle.model.specs.declared.Point.{Point}
+use Rattle.model.specs.declared.Split.the-variants.{Line, Mask}
+use Rattle.model.specs.declared.Candidate.{Candidate}
+use Rattle.model.specs.declared.Candidate.the-variants.{Full, Flat, Regions}
 use Rattle.model.specs.declared.Report.{Report}
 use Rattle.model.specs.declared.Report.the-variants.{Sound, Difference, Total}
 use Rattle.model.specs.Lists.{listOf, listFrom, rows, rowOf, sumTo}
@@ -19,7 +23,8 @@ use Rattle.model.specs.Planes.{Depths, View, depths, view, held, withTotal}
 use Rattle.model.specs.Fresh.{freshRow, freshView, freshSample, freshCombined, fresh, totalOf, freshTotal}
 use Rattle.model.specs.Span.{leastEdited, spanLow, spanHigh, inSpan, firstColumn, placesOf, spanHas, limitMoves}
 use Rattle.model.specs.Reports.{sameMark, sameView, sameAt, firstBad, firstDifference, reportOf}
-use Rattle.model.specs.Refusals.{blockOk, ownThen}
+use Rattle.model.specs.Candidates.{cross, inRegion1, filled, onBorder, sideShared, lineOk}
+use Rattle.model.specs.Refusals.{blockOk, candidateThen, ownThen}
 use Rattle.cases.specs.Cases.{identity, four, settings, opening, images}
 
 abbrev block : ℕ → ℕ → ℕ → ℕ → Block
@@ -100,29 +105,101 @@ edited : ℕ → Depths
 edited d = depths (0 ∷ 0 ∷ d ∷ 0 ∷ []) (0 ∷ 0 ∷ 0 ∷ 0 ∷ [])
 
 spans-left :
-    (listOf (spanHas settings false (block 2 0 1 1) opening (edited 4) 0) 4 ≡ false ∷ true ∷ true ∷ false ∷ [])
-    × (listOf (spanHas settings false (block 2 0 1 1) opening (edited 7) 0) 4 ≡ true ∷ true ∷ true ∷ false ∷ [])
-unfolding edited spanHas inSpan leastEdited spanLow spanHigh placesOf place least limit firstColumn entryOf seen rowOf settings opening identity listFrom
+    (listOf (spanHas (settings 1) false (block 2 0 1 1) (opening 1) (edited 4) 0) 4 ≡ false ∷ true ∷ true ∷ false ∷ [])
+    × (listOf (spanHas (settings 1) false (block 2 0 1 1) (opening 1) (edited 7) 0) 4 ≡ true ∷ true ∷ true ∷ false ∷ [])
+unfolding edited spanHas inSpan leastEdited spanLow spanHigh placesOf place least limit firstColumn entryOf seen rowOf rows settings opening identity listFrom
 spans-left = (refl, refl)
 
-limits-left : listOf (limitMoves settings false (block 2 0 1 1)) 4 ≡ true ∷ true ∷ true ∷ false ∷ []
+limits-left : listOf (limitMoves (settings 1) false (block 2 0 1 1)) 4 ≡ true ∷ true ∷ true ∷ false ∷ []
 unfolding limitMoves firstColumn entryOf settings listFrom
 limits-left = refl
 
-limits-right : listOf (limitMoves settings true (block 1 0 1 1)) 4 ≡ false ∷ true ∷ true ∷ true ∷ []
+limits-right : listOf (limitMoves (settings 1) true (block 1 0 1 1)) 4 ≡ false ∷ true ∷ true ∷ true ∷ []
 unfolding limitMoves firstColumn entryOf settings listFrom
 limits-right = refl
 
--- ---- refusals: pairs of conditions show the order
+-- ---- filled blocks: 7 stands in region 0, 9 in region 1
+
+abbrev point : ℕ → ℕ → Point
+point column row = record { column = column; row = row }
+
+abbrev by : Point → Point → Candidate
+by start end = Regions 7 9 (Line start end)
+
+-- a line between opposite corners and its reverse; positions on the line are in region 0 both ways
+corners :
+    (filled (block 5 6 4 4) (by (point 0 0) (point 3 3)) [] ≡ 7 ∷ 7 ∷ 7 ∷ 7 ∷ 9 ∷ 7 ∷ 7 ∷ 7 ∷ 9 ∷ 9 ∷ 7 ∷ 7 ∷ 9 ∷ 9 ∷ 9 ∷ 7 ∷ [])
+    × (filled (block 5 6 4 4) (by (point 3 3) (point 0 0)) [] ≡ 7 ∷ 9 ∷ 9 ∷ 9 ∷ 7 ∷ 7 ∷ 9 ∷ 9 ∷ 7 ∷ 7 ∷ 7 ∷ 9 ∷ 7 ∷ 7 ∷ 7 ∷ 7 ∷ [])
+unfolding filled inRegion1 cross listFrom
+corners = (refl, refl)
+
+-- a line from the first row to the last, and one from the first column to the last row of a block that is wider than high
+sides :
+    (filled (block 0 0 4 4) (by (point 1 0) (point 2 3)) [] ≡ 9 ∷ 7 ∷ 7 ∷ 7 ∷ 9 ∷ 9 ∷ 7 ∷ 7 ∷ 9 ∷ 9 ∷ 7 ∷ 7 ∷ 9 ∷ 9 ∷ 7 ∷ 7 ∷ [])
+    × (filled (block 0 0 5 3) (by (point 0 1) (point 3 2)) [] ≡ 7 ∷ 7 ∷ 7 ∷ 7 ∷ 7 ∷ 7 ∷ 7 ∷ 7 ∷ 7 ∷ 7 ∷ 9 ∷ 9 ∷ 9 ∷ 7 ∷ 7 ∷ [])
+unfolding filled inRegion1 cross listFrom
+sides = (refl, refl)
+
+-- a mask of three rows of three: no gap between rows, and the spare bits of its second byte do not count
+masked :
+    (filled (block 0 0 3 3) (Regions 7 9 Mask) (181 ∷ 1 ∷ []) ≡ 9 ∷ 7 ∷ 9 ∷ 7 ∷ 9 ∷ 9 ∷ 7 ∷ 9 ∷ 9 ∷ [])
+    × (filled (block 0 0 3 3) (Regions 7 9 Mask) (181 ∷ 255 ∷ []) ≡ 9 ∷ 7 ∷ 9 ∷ 7 ∷ 9 ∷ 9 ∷ 7 ∷ 9 ∷ 9 ∷ [])
+unfolding filled inRegion1 listFrom
+masked = (refl, refl)
+
+-- one value, and a full block
+plain : (filled (block 0 0 3 2) (Flat 5) [] ≡ 5 ∷ 5 ∷ 5 ∷ 5 ∷ 5 ∷ 5 ∷ []) × (filled (block 0 0 2 1) Full (3 ∷ 4 ∷ []) ≡ 3 ∷ 4 ∷ [])
+unfolding filled listFrom
+plain = (refl, refl)
+
+-- ---- lines: opposite corners are taken, and sides that meet; corners of one side, a point inside the border, and points past the last column or row are not
+
+abbrev taken : ℕ → ℕ → Point → Point → Bool
+taken width height start end = lineOk (block 5 6 width height) start end
+
+lines :
+    (taken 4 4 (point 0 0) (point 3 3) ≡ true)
+    × (taken 4 4 (point 3 0) (point 0 3) ≡ true)
+    × (taken 4 4 (point 1 0) (point 0 2) ≡ true)
+    × (taken 2 2 (point 0 0) (point 1 1) ≡ true)
+    × (taken 4 4 (point 0 0) (point 3 0) ≡ false)
+    × (taken 4 4 (point 3 0) (point 3 3) ≡ false)
+    × (taken 4 4 (point 0 3) (point 3 3) ≡ false)
+    × (taken 4 4 (point 0 0) (point 0 3) ≡ false)
+    × (taken 4 4 (point 0 0) (point 0 0) ≡ false)
+    × (taken 4 4 (point 1 1) (point 3 3) ≡ false)
+    × (taken 4 4 (point 0 0) (point 3 4) ≡ false)
+    × (taken 4 4 (point 4 1) (point 0 0) ≡ false)
+    × (taken 1 4 (point 0 0) (point 0 3) ≡ false)
+    × (taken 4 1 (point 0 0) (point 3 0) ≡ false)
+unfolding lineOk onBorder sideShared
+lines = (refl, refl, refl, refl, refl, refl, refl, refl, refl, refl, refl, refl, refl, refl)
+
+-- ---- refusals: pairs of conditions show the order, 6, then 5, then 7, 14 or 15; one value has none of its own, and a line's bytes are not counted
+
+abbrev across : Candidate
+across = by (point 0 0) (point 1 1)
 
 own-order :
-    (ownThen settings 2 (block 4 0 1 1) 1 0 ≡ 6)
-    × (ownThen settings 1 (block 4 0 1 1) 9 0 ≡ 5)
-    × (ownThen settings 1 (block 2 0 0 1) 0 0 ≡ 5)
-    × (ownThen settings 1 (block 2 0 2 1) 1 0 ≡ 7)
-    × (ownThen settings 1 (block 2 0 2 1) 2 0 ≡ 0)
-unfolding ownThen blockOk settings
-own-order = (refl, refl, refl, refl, refl)
+    (ownThen (settings 1) 2 (block 4 0 1 1) Full 1 0 ≡ 6)
+    × (ownThen (settings 1) 1 (block 4 0 1 1) Full 9 0 ≡ 5)
+    × (ownThen (settings 1) 1 (block 2 0 0 1) Full 0 0 ≡ 5)
+    × (ownThen (settings 1) 1 (block 2 0 2 1) Full 1 0 ≡ 7)
+    × (ownThen (settings 1) 1 (block 2 0 2 1) Full 2 0 ≡ 0)
+    × (ownThen (settings 1) 2 (block 2 0 2 1) across 0 0 ≡ 6)
+    × (ownThen (settings 1) 1 (block 2 0 3 1) across 0 0 ≡ 5)
+    × (ownThen (settings 1) 1 (block 2 0 2 1) across 2 0 ≡ 14)
+    × (ownThen (settings 2) 1 (block 2 0 2 2) across 9 0 ≡ 0)
+    × (ownThen (settings 1) 2 (block 0 0 4 1) (Regions 7 9 Mask) 2 0 ≡ 6)
+    × (ownThen (settings 1) 1 (block 0 0 5 1) (Regions 7 9 Mask) 2 0 ≡ 5)
+    × (ownThen (settings 1) 1 (block 0 0 4 1) (Regions 7 9 Mask) 4 0 ≡ 15)
+    × (ownThen (settings 2) 1 (block 0 0 4 2) (Regions 7 9 Mask) 2 0 ≡ 15)
+    × (ownThen (settings 2) 1 (block 0 0 4 2) (Regions 7 9 Mask) 1 0 ≡ 0)
+    × (ownThen (settings 1) 2 (block 4 0 1 1) (Flat 5) 9 0 ≡ 6)
+    × (ownThen (settings 1) 1 (block 4 0 1 1) (Flat 5) 9 0 ≡ 5)
+    × (ownThen (settings 1) 1 (block 2 0 2 1) (Flat 5) 9 0 ≡ 0)
+unfolding ownThen candidateThen lineOk onBorder sideShared blockOk settings
+own-order = (refl, refl, refl, refl, refl, refl, refl, refl, refl, refl, refl, refl, refl, refl, refl, refl, refl)
 
 -- ---- CHECK
 
@@ -130,13 +207,13 @@ abbrev drawn : View
 drawn = view four (0 ∷ 0 ∷ 0 ∷ 0 ∷ []) (pos 0 ∷ pos 4 ∷ pos 8 ∷ pos 12 ∷ []) (0 ∷ [])
 
 report : Settings → List ℕ → List ℕ → Report
-report s marks combined = reportOf s images opening (held drawn (view (drawn .samples) (drawn .fronts) (pos 12 ∷ pos 8 ∷ pos 4 ∷ pos 0 ∷ []) marks) combined)
+report s marks combined = reportOf s (images 1) (opening 1) (held drawn (view (drawn .samples) (drawn .fronts) (pos 12 ∷ pos 8 ∷ pos 4 ∷ pos 0 ∷ []) marks) combined)
 
 -- sound; a wrong sample; a spare bit, which counts with the last column; a wrong total
 reports :
-    (report settings (0 ∷ []) four ≡ Sound)
-    × (report settings (0 ∷ []) (10 ∷ 21 ∷ 30 ∷ 41 ∷ []) ≡ Difference 0 1)
-    × (report settings (16 ∷ []) four ≡ Difference 0 3)
-    × (report (withTotal settings 1) (0 ∷ []) four ≡ Total)
+    (report (settings 1) (0 ∷ []) four ≡ Sound)
+    × (report (settings 1) (0 ∷ []) (10 ∷ 21 ∷ 30 ∷ 41 ∷ []) ≡ Difference 0 1)
+    × (report (settings 1) (16 ∷ []) four ≡ Difference 0 3)
+    × (report (withTotal (settings 1) 1) (0 ∷ []) four ≡ Total)
 unfolding report reportOf firstDifference firstBad sameAt sameView sameMark fresh freshView freshRow freshSample freshCombined totalOf freshTotal viewRow seen leftRow limitAt pixelAt shownPixel nearEdge placedAt ownedPixel pairPixel lastPixel tornPixel smoothPixel mixed filtered weighted repeated sampleIn read taps1 taps2 taps3 stepOf kindOf owner limit least place listFrom rows rowOf sumTo packRow packByte shared bothShown bothHoles combinedOf squareError settings opening images four identity
 reports = (refl, refl, refl, refl)

@@ -2,3 +2,4 @@
 pub mod Cases
 pub mod Computed
 pub mod EightBits
+pub mod Lines

@@ -1,4 +1,5 @@
--- Document 01, "Small rows and sessions": cases a to m, in one table; d, e, f, k and m as document 02, card 2, has them, and the case of card 7.
+-- Document 01, "Small rows and sessions": cases a to m, in one table; d, e, f, k and m as document 02, card 2, has them, and cases of cards 6
+-- and 7.
 use Prim.Native.Nat.{ℕ}
 use Prim.Native.String.{String}
 use mathlib.Core.Bool.{Bool, true, false, _&&_}
@@ -8,7 +9,11 @@ use lib.IntN.{ℤ, pos}
 use lib.Signed.{leZ}
 use Rattle.model.specs.declared.Settings.{Settings}
 use Rattle.model.specs.declared.Block.{Block}
-use Rattle.model.specs.Lists.{listOf}
+use Rattle.model.specs.declared.Split.{Split}
+use Rattle.model.specs.declared.Split.the-variants.{Line, Mask}
+use Rattle.model.specs.declared.Candidate.{Candidate}
+use Rattle.model.specs.declared.Candidate.the-variants.{Full, Flat, Regions}
+use Rattle.model.specs.Lists.{listOf, rows}
 use Rattle.model.specs.Row.{line, neg, pixel}
 use Rattle.model.specs.Views.{viewRow}
 use Rattle.model.specs.Combined.{combinedOf}
@@ -22,11 +27,11 @@ pub record Step : Type 0 where
   pub call : Call
   pub change : ℤ
 
--- A row of a view with its samples and marks; a combined sample; or a session's calls with its last total.
+-- A row of a view with its samples and marks; a combined sample; or a session's rows and calls with its last total.
 pub data Case : Type 0 where
   row : String → Bool → List ℕ → List ℕ → List ℕ → List ℕ → Case
   mix : String → ℕ → ℕ → ℕ → ℕ → ℕ → ℕ → ℕ → Case
-  session : String → List Step → ℕ → Case
+  session : String → ℕ → List Step → ℕ → Case
 
 -- Table: entry d is d. Texture 10 20 30 40 unless said.
 unfoldable pub identity : List ℕ
@@ -38,28 +43,49 @@ four = 10 ∷ 20 ∷ 30 ∷ 40 ∷ []
 abbrev zeros : List ℕ
 zeros = 0 ∷ 0 ∷ 0 ∷ 0 ∷ []
 
--- h 1, both textures as above, depths 0, reference 10 20 30 40, share 0, tolerance 255
-unfoldable pub settings : Settings
-settings = record { w = 4; h = 1; left = identity; right = identity; share = 0; tolerance = 255; total = 0 }
+-- h rows, each with both textures as above, depths 0 and reference 10 20 30 40; share 0, tolerance 255
+unfoldable pub settings : ℕ → Settings
+settings h = record { w = 4; h = h; left = identity; right = identity; share = 0; tolerance = 255; total = 0 }
 
-unfoldable pub opening : Depths
-opening = depths zeros zeros
+unfoldable pub opening : ℕ → Depths
+opening h = depths (rows (λ y. zeros) h) (rows (λ y. zeros) h)
 
-unfoldable pub images : Pictures
-images = pictures four four four
+unfoldable pub images : ℕ → Pictures
+images h = pictures (rows (λ y. four) h) (rows (λ y. four) h) (rows (λ y. four) h)
 
--- left view, one column
+-- left view: block, candidate, bytes lent with it, change
+abbrev tried : Block → Candidate → List ℕ → ℤ → Step
+tried b c x change = record { call = get 0 b c x; change = change }
+
+abbrev wrote : Block → Candidate → List ℕ → ℤ → Step
+wrote b c x change = record { call = set 0 b c x; change = change }
+
+-- one column
 abbrev only : ℕ → Block
 only column = record { column = column; row = 0; width = 1; height = 1 }
 
 abbrev GET : ℕ → ℕ → ℤ → Step
-GET column depth change = record { call = get 0 (only column) (depth ∷ []); change = change }
+GET column depth change = tried (only column) Full (depth ∷ []) change
 
 abbrev SET : ℕ → ℕ → ℤ → Step
-SET column depth change = record { call = set 0 (only column) (depth ∷ []); change = change }
+SET column depth change = wrote (only column) Full (depth ∷ []) change
+
+-- the whole row, and the last two columns of two rows
+abbrev whole : Block
+whole = record { column = 0; row = 0; width = 4; height = 1 }
+
+abbrev square : Block
+square = record { column = 2; row = 0; width = 2; height = 2 }
+
+-- the line between the corners (0, 0) and (1, 1)
+abbrev falling : Split
+falling = Line (record { column = 0; row = 0 }) (record { column = 1; row = 1 })
+
+abbrev reversed : Split
+reversed = Line (record { column = 1; row = 1 }) (record { column = 0; row = 0 })
 
 -- row: view, texture, depths, samples, marks; mix: share, tolerance, left and right depth, left and right sample, combined;
--- session: calls with their changes, the total at the end
+-- session: rows, calls with their changes, the total at the end
 unfoldable pub cases : List Case
 cases =
     row "a" false (50 ∷ []) (0 ∷ []) (50 ∷ []) (0 ∷ [])
@@ -73,13 +99,18 @@ cases =
     ∷ mix "i" 32 0 7 7 10 20 15
     ∷ mix "j, mixed" 32 3 8 5 10 20 15
     ∷ mix "j, left" 32 3 9 5 10 20 10
-    ∷ session "total 0" [] 0
-    ∷ session "k" (GET 2 4 (pos 136) ∷ []) 0
-    ∷ session "l" (GET 2 5 (pos 100) ∷ []) 0
-    ∷ session "m" (SET 2 4 (pos 136) ∷ GET 2 5 (neg 36) ∷ SET 2 0 (neg 136) ∷ []) 0
+    ∷ session "total 0" 1 [] 0
+    ∷ session "k" 1 (GET 2 4 (pos 136) ∷ []) 0
+    ∷ session "l" 1 (GET 2 5 (pos 100) ∷ []) 0
+    ∷ session "m" 1 (SET 2 4 (pos 136) ∷ GET 2 5 (neg 36) ∷ SET 2 0 (neg 136) ∷ []) 0
+    ∷ session "card 6, one value" 1 (tried (only 2) (Flat 4) [] (pos 136) ∷ []) 0
+    ∷ session "card 6, a mask with spare bits" 1 (tried whole (Regions 0 4 Mask) (244 ∷ []) (pos 136) ∷ []) 0
+    ∷ session "card 6, a line and its reverse" 2
+    (tried square (Regions 0 4 falling) [] (pos 136) ∷ wrote square (Regions 0 4 reversed) [] (pos 100) ∷ tried square (Flat 0) [] (neg 100) ∷ [])
+    100
     ∷ row "card 7" false four (0 ∷ 0 ∷ 7 ∷ 0 ∷ []) (30 ∷ 40 ∷ 40 ∷ 40 ∷ []) (0 ∷ 1 ∷ 1 ∷ 0 ∷ [])
     ∷ row "card 7, right view" true four (0 ∷ 7 ∷ 0 ∷ 0 ∷ []) (10 ∷ 10 ∷ 10 ∷ 20 ∷ []) (0 ∷ 1 ∷ 1 ∷ 0 ∷ [])
-    ∷ session "card 7, an edge two columns right of the block" (SET 3 11 (pos 900) ∷ SET 1 3 (neg 900) ∷ GET 1 0 (pos 900) ∷ []) 0
+    ∷ session "card 7, an edge two columns right of the block" 1 (SET 3 11 (pos 900) ∷ SET 1 3 (neg 900) ∷ GET 1 0 (pos 900) ∷ []) 0
     ∷ []
 
 -- ---- the test
@@ -94,17 +125,17 @@ abbrev sameChange : ℤ → ℤ → Bool
 sameChange a b = leZ a b && leZ b a
 
 -- the calls are accepted and answer these changes, and the plain record ends with this total
-unfoldable pub holdsFrom : Depths → List Step → ℕ → Bool
-holdsFrom d [] total = eqb (freshTotal settings images d) total
-holdsFrom d (k ∷ ks) total =
-    (eqb (plainReply settings images d (k .call) .number) 0 && sameChange (plainReply settings images d (k .call) .change) (k .change))
-    && holdsFrom (plainNext settings d (k .call)) ks total
+unfoldable pub holdsFrom : ℕ → Depths → List Step → ℕ → Bool
+holdsFrom h d [] total = eqb (freshTotal (settings h) (images h) d) total
+holdsFrom h d (k ∷ ks) total =
+    (eqb (plainReply (settings h) (images h) d (k .call) .number) 0 && sameChange (plainReply (settings h) (images h) d (k .call) .change) (k .change))
+    && holdsFrom h (plainNext (settings h) d (k .call)) ks total
 
 unfoldable pub holds : Case → Bool
 holds (row name right texture depths samples marks) =
     same (viewRow right (line identity texture depths) .samples) samples && same (viewRow right (line identity texture depths) .marks) marks
 holds (mix name share tolerance ld rd ls rs combined) = eqb (combinedOf share tolerance (pixel ls 0 ld) (pixel rs 0 rd)) combined
-holds (session name steps total) = holdsFrom opening steps total
+holds (session name h steps total) = holdsFrom h (opening h) steps total
 
 unfoldable pub allHold : List Case → Bool
 allHold [] = true

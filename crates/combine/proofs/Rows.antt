@@ -19,7 +19,7 @@ use Rattle.model.specs.Marks.{markBytes}
 use Rattle.model.specs.Planes.{View, view, viewRows, readAll}
 use Rattle.model.specs.Blocks.{inRows, writtenPlane}
 use Rattle.model.proofs.Choice.{lt-or-le, and-false}
-use Rattle.model.proofs.Lists.{rows-apart, length-row, plane-ext}
+use Rattle.model.proofs.Lists.{rows-apart, length-plane-row, plane-ext}
 use Rattle.model.proofs.Written.{length-written, rows-under, rows-beyond, written-row-out, written-row-in}
 use Rattle.planes.specs.Parts.{splice, Low}
 use Rattle.planes.proofs.Splices.{row-splice, row-other}
@@ -27,9 +27,9 @@ use Rattle.commit.specs.Commit.{Sized, SoundRow, heldAt, heldIn}
 use Rattle.commit.proofs.Planes.{same-row}
 use Rattle.combine.specs.Combine.{combinedRow, ViewIn, OtherSized, BlockIn, RowSet, BlockSet}
 
--- row j of a candidate lies within it
-pub candidate-row : (n height j : ℕ) (candidate : List ℕ) → j < height → length candidate ≡ n * height → j * n + n ≤ length candidate
-candidate-row n height j candidate h e = omega (arith, rows-apart n j height h, mul-comm n height)
+-- row j of a block's depths is as wide as the block
+pub row-wide : {w h : ℕ} {b : Block} {candidate : List ℕ} {j : ℕ} → BlockIn w h b candidate → j < b .height → length (rowOf candidate (b .width) j) ≡ b .width
+row-wide {b = b} {candidate} {j} block less = length-plane-row candidate (b .width) (b .height) j (block .size ∙ mul-comm (b .width) (b .height)) less
 
 row-in : (w h y n : ℕ) → y < h → n ≡ w * h → y * w + w ≤ n
 row-in w h y n k e = omega (arith, rows-apart w y h k, mul-comm w h)
@@ -74,11 +74,8 @@ module _ {right : Bool} {t : List ℕ} {share tolerance w h : ℕ} {b : Block} {
   row-within : (plane : List ℕ) → length plane ≡ w * h → (b .row + j) * w + w ≤ length plane
   row-within plane e = row-in w h (b .row + j) (length plane) (omega (arith, block .below)) e
 
-  part-wide : length (rowOf candidate (b .width) j) ≡ b .width
-  part-wide = length-row candidate (b .width) j (candidate-row (b .width) (b .height) j candidate less (block .size))
-
   part-fits : b .column + length (rowOf candidate (b .width) j) ≤ w
-  part-fits = rw part-wide (block .right)
+  part-fits = rw (row-wide block less) (block .right)
 
   -- the row that is written now
   written-now : rowOf d′ w (b .row + j) ≡ rowOf (writtenPlane w b candidate d₀) w (b .row + j)
@@ -87,7 +84,7 @@ module _ {right : Bool} {t : List ℕ} {share tolerance w h : ℕ} {b : Block} {
       let e : b .row + j - b .row ≡ j = omega arith in
       ap (λ (l : List ℕ). rowOf l w (b .row + j)) (set .depths)
       ∙ row-splice 0 d w (b .row + j) (b .column) (rowOf candidate (b .width) j) (row-within d (through .size .depths)) part-fits
-      ∙ rw (through .unwritten (b .row + j) (inr (omega arith)), part-wide)
+      ∙ rw (through .unwritten (b .row + j) (inr (omega arith)), row-wide block less)
       (sym (rw e at (written-row-in w b candidate d₀ (b .row + j) (row-within d₀ start) (block .right) (block .size) (omega arith) (omega arith))))
 
   kept : (k : ℕ) → (k ≡ b .row + j → ⊥) → rowOf d′ w k ≡ rowOf d w k

@@ -1,11 +1,14 @@
 // What SET writes, whole: the planes of one view on the block's rows, and the combined picture in each row's span.
+use model::Candidate;
 ghost use mathlib.Core.Path.{_≡_};
 ghost use mathlib.Core.Bool.{true};
 ghost use Prim.Native.Nat.{_+_, _-_, _*_, _≤_, _<_};
 ghost use lib.ListN.{length};
 ghost use Rattle.model.specs.Planes.{view};
-ghost use Rattle.model.specs.Refusals.{tableOk};
+ghost use Rattle.model.specs.Candidates.{filled};
+ghost use Rattle.model.specs.Refusals.{tableOk, candidateThen};
 ghost use Rattle.planes.specs.Parts.{splice, blockOf};
+ghost use Rattle.fill.specs.Rows.{roomOf};
 ghost use Rattle.blend.specs.Blend.{combinedPart};
 ghost use Rattle.commit.specs.Commit.{Sized, RowIn, heldAt};
 ghost use Rattle.combine.specs.Combine.{ViewIn, OtherSized, BlockIn, RowSet, BlockSet};
@@ -123,7 +126,7 @@ fn set_row(
 }
 
 // Writes the candidate into the block in one view's depths, row by row, and brings that view's planes and the combined picture up to date.
-pub fn set_block(
+fn set_rows(
     right: bool,
     table: &[u16; 256],
     share: u8,
@@ -135,7 +138,9 @@ pub fn set_block(
     width: usize,
     height: usize,
     texture: &[u16],
-    candidate: &[u8],
+    candidate: Candidate,
+    bytes: &[u8],
+    room: &mut [u8],
     depths: &mut [u8],
     samples: &mut [u16],
     fronts: &mut [u8],
@@ -149,17 +154,18 @@ pub fn set_block(
     requires { ⌜ (tableOk (now table) ≡ true) × ((share ≤ 64) × ((w ≤ 4096) × (h ≤ 4096))) ⌝ }
     requires { ⌜ Sized w h (now texture) (now depths) (view (now samples) (now fronts) (now limits) (now marks)) ⌝ }
     requires { ⌜ OtherSized w h (now samples2) (now fronts2) (now marks2) (now combined) ⌝ }
-    requires { ⌜ BlockIn w h (blockOf column row width height) (now candidate) ⌝ }
-    ensures { λ _. ⌜ BlockSet right (now (table .entry)) share tolerance w h (blockOf column row width height) (now (texture .entry)) (now (candidate .entry)) (now (samples2 .entry)) (now (fronts2 .entry)) (now (marks2 .entry))
+    requires { ⌜ (BlockIn w h (blockOf column row width height) (filled (blockOf column row width height) candidate (now bytes))) × ((candidateThen (blockOf column row width height) candidate (length (now bytes)) 0 ≡ 0) × (length (now room) ≡ roomOf candidate width)) ⌝ }
+    ensures { λ _. ⌜ BlockSet right (now (table .entry)) share tolerance w h (blockOf column row width height) (now (texture .entry)) (filled (blockOf column row width height) candidate (now (bytes .entry))) (now (samples2 .entry)) (now (fronts2 .entry)) (now (marks2 .entry))
         (now (depths .entry)) (now (depths .exit))
         (view (now (samples .entry)) (now (fronts .entry)) (now (limits .entry)) (now (marks .entry)))
         (view (now (samples .exit)) (now (fronts .exit)) (now (limits .exit)) (now (marks .exit)))
         (now (combined .entry)) (now (combined .exit)) ⌝ }
 {
+    fill::start(candidate, room);
     let mut j = 0;
     while j < height {
-        let from = j * width;
-        let to = from + width;
+        fill::fill_rows(candidate, bytes, width, j, 1, room);
+        let chosen = fill::row_of(candidate, bytes, width, j, room);
         set_row(
             right,
             table,
@@ -169,7 +175,7 @@ pub fn set_block(
             row + j,
             column,
             texture,
-            &candidate[from..to],
+            chosen,
             depths,
             samples,
             fronts,
@@ -182,4 +188,96 @@ pub fn set_block(
         );
         j += 1;
     }
+}
+
+// Writes the candidate into the block in one view's depths and brings that view's planes and the combined picture up to date.
+pub fn set_block(
+    right: bool,
+    table: &[u16; 256],
+    share: u8,
+    tolerance: u8,
+    w: usize,
+    h: usize,
+    column: usize,
+    row: usize,
+    width: usize,
+    height: usize,
+    texture: &[u16],
+    candidate: Candidate,
+    bytes: &[u8],
+    depths: &mut [u8],
+    samples: &mut [u16],
+    fronts: &mut [u8],
+    limits: &mut [i16],
+    marks: &mut [u8],
+    samples2: &[u16],
+    fronts2: &[u8],
+    marks2: &[u8],
+    combined: &mut [u16],
+)
+    requires { ⌜ (tableOk (now table) ≡ true) × ((share ≤ 64) × ((w ≤ 4096) × (h ≤ 4096))) ⌝ }
+    requires { ⌜ Sized w h (now texture) (now depths) (view (now samples) (now fronts) (now limits) (now marks)) ⌝ }
+    requires { ⌜ OtherSized w h (now samples2) (now fronts2) (now marks2) (now combined) ⌝ }
+    requires { ⌜ (BlockIn w h (blockOf column row width height) (filled (blockOf column row width height) candidate (now bytes))) × (candidateThen (blockOf column row width height) candidate (length (now bytes)) 0 ≡ 0) ⌝ }
+    ensures { λ _. ⌜ BlockSet right (now (table .entry)) share tolerance w h (blockOf column row width height) (now (texture .entry)) (filled (blockOf column row width height) candidate (now (bytes .entry))) (now (samples2 .entry)) (now (fronts2 .entry)) (now (marks2 .entry))
+        (now (depths .entry)) (now (depths .exit))
+        (view (now (samples .entry)) (now (fronts .entry)) (now (limits .entry)) (now (marks .entry)))
+        (view (now (samples .exit)) (now (fronts .exit)) (now (limits .exit)) (now (marks .exit)))
+        (now (combined .entry)) (now (combined .exit)) ⌝ }
+{
+    let n = fill::room_of(candidate, width);
+    if n <= 256 {
+        let mut room = fill::short_room();
+        return set_rows(
+            right,
+            table,
+            share,
+            tolerance,
+            w,
+            h,
+            column,
+            row,
+            width,
+            height,
+            texture,
+            candidate,
+            bytes,
+            &mut room[..n],
+            depths,
+            samples,
+            fronts,
+            limits,
+            marks,
+            samples2,
+            fronts2,
+            marks2,
+            combined,
+        );
+    }
+    let mut room = fill::long_room();
+    set_rows(
+        right,
+        table,
+        share,
+        tolerance,
+        w,
+        h,
+        column,
+        row,
+        width,
+        height,
+        texture,
+        candidate,
+        bytes,
+        &mut room[..n],
+        depths,
+        samples,
+        fronts,
+        limits,
+        marks,
+        samples2,
+        fronts2,
+        marks2,
+        combined,
+    )
 }

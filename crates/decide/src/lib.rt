@@ -1,16 +1,22 @@
 // What GET and SET decide: the first refusal that applies, or the change of the total. GET calls `decide`; SET picks the view first and calls `judge`.
 use model::Block;
+use model::Candidate;
 use model::Refusal;
 use trial::Sums;
 use validate::Lengths;
 use validate::ViewLengths;
 ghost use mathlib.Core.Path.{_≡_};
+ghost use mathlib.Core.Bool.{false};
 ghost use Prim.Native.Nat.{_*_, _≤_};
 ghost use lib.ListN.{length};
 ghost use lib.IntN.{pos};
+ghost use Rattle.model.specs.declared.Candidate.the-variants.{Full};
+ghost use Rattle.model.specs.Views.{isRight};
 ghost use Rattle.model.specs.Combined.{worst};
 ghost use Rattle.model.specs.Planes.{pictures, depths};
+ghost use Rattle.model.specs.Candidates.{filled};
 ghost use Rattle.model.specs.Refusals.{earlyNumber};
+ghost use Rattle.fill.specs.Rows.{isLent};
 ghost use Rattle.decide.specs.Decided.{settingsOf, heldOf, Tried, Judged, Decided};
 
 // The first refusal that applies, the change of the total, and the total after the call. A refused call has a change of 0.
@@ -56,7 +62,196 @@ pub fn judge(total: u64, old: u64, new: u64, most: u64) -> Decision
     }
 }
 
-// The squared errors in the block's spans, summed as the combined picture is held and as the candidate would make it.
+// View 1 is the right view.
+fn is_right(view: u32) -> bool
+    ensures { λ r. ⌜ r ≡ isRight view ⌝ }
+{
+    view == 1
+}
+
+// The squared errors in the block's spans, summed as the combined picture is held and as the candidate would make it, for a full block.
+fn try_lent(
+    w: u32,
+    h: u32,
+    leftTable: &[u16; 256],
+    rightTable: &[u16; 256],
+    share: u8,
+    tolerance: u8,
+    left: &[u16],
+    right: &[u16],
+    reference: &[u16],
+    leftDepths: &[u8],
+    rightDepths: &[u8],
+    leftSamples: &[u16],
+    leftFronts: &[u8],
+    leftLimits: &[i16],
+    leftMarks: &[u8],
+    rightSamples: &[u16],
+    rightFronts: &[u8],
+    rightLimits: &[i16],
+    rightMarks: &[u8],
+    combined: &[u16],
+    view: u32,
+    block: Block,
+    bytes: &[u8],
+) -> Sums
+    requires { ⌜ earlyNumber (settingsOf w h (now leftTable) (now rightTable) share tolerance 0)
+        (pictures (now left) (now right) (now reference))
+        (depths (now leftDepths) (now rightDepths))
+        (heldOf (now leftSamples) (now leftFronts) (now leftLimits) (now leftMarks) (now rightSamples) (now rightFronts) (now rightLimits) (now rightMarks) (now combined))
+        view block Full (length (now bytes)) ≡ 0 ⌝ }
+    ensures { λ r. ⌜ Tried (settingsOf w h (now (leftTable .entry)) (now (rightTable .entry)) share tolerance 0)
+        (pictures (now (left .entry)) (now (right .entry)) (now (reference .entry)))
+        (depths (now (leftDepths .entry)) (now (rightDepths .entry)))
+        (heldOf (now (leftSamples .entry)) (now (leftFronts .entry)) (now (leftLimits .entry)) (now (leftMarks .entry)) (now (rightSamples .entry)) (now (rightFronts .entry)) (now (rightLimits .entry)) (now (rightMarks .entry)) (now (combined .entry)))
+        view block (now (bytes .entry)) (r .old) (r .new) ⌝ }
+{
+    let columns = w as usize;
+    let rows = h as usize;
+    let column = block.column as usize;
+    let row = block.row as usize;
+    let width = block.width as usize;
+    let height = block.height as usize;
+    if is_right(view) {
+        return trial::trial_block(
+            true,
+            rightTable,
+            share,
+            tolerance,
+            columns,
+            rows,
+            column,
+            row,
+            width,
+            height,
+            right,
+            rightDepths,
+            rightLimits,
+            bytes,
+            leftSamples,
+            leftFronts,
+            leftMarks,
+            combined,
+            reference,
+        );
+    }
+    trial::trial_block(
+        false,
+        leftTable,
+        share,
+        tolerance,
+        columns,
+        rows,
+        column,
+        row,
+        width,
+        height,
+        left,
+        leftDepths,
+        leftLimits,
+        bytes,
+        rightSamples,
+        rightFronts,
+        rightMarks,
+        combined,
+        reference,
+    )
+}
+
+// The same for a candidate whose rows are made.
+fn try_made(
+    w: u32,
+    h: u32,
+    leftTable: &[u16; 256],
+    rightTable: &[u16; 256],
+    share: u8,
+    tolerance: u8,
+    left: &[u16],
+    right: &[u16],
+    reference: &[u16],
+    leftDepths: &[u8],
+    rightDepths: &[u8],
+    leftSamples: &[u16],
+    leftFronts: &[u8],
+    leftLimits: &[i16],
+    leftMarks: &[u8],
+    rightSamples: &[u16],
+    rightFronts: &[u8],
+    rightLimits: &[i16],
+    rightMarks: &[u8],
+    combined: &[u16],
+    view: u32,
+    block: Block,
+    candidate: Candidate,
+    bytes: &[u8],
+) -> Sums
+    requires { ⌜ earlyNumber (settingsOf w h (now leftTable) (now rightTable) share tolerance 0)
+        (pictures (now left) (now right) (now reference))
+        (depths (now leftDepths) (now rightDepths))
+        (heldOf (now leftSamples) (now leftFronts) (now leftLimits) (now leftMarks) (now rightSamples) (now rightFronts) (now rightLimits) (now rightMarks) (now combined))
+        view block candidate (length (now bytes)) ≡ 0 ⌝ }
+    requires { ⌜ isLent candidate ≡ false ⌝ }
+    ensures { λ r. ⌜ Tried (settingsOf w h (now (leftTable .entry)) (now (rightTable .entry)) share tolerance 0)
+        (pictures (now (left .entry)) (now (right .entry)) (now (reference .entry)))
+        (depths (now (leftDepths .entry)) (now (rightDepths .entry)))
+        (heldOf (now (leftSamples .entry)) (now (leftFronts .entry)) (now (leftLimits .entry)) (now (leftMarks .entry)) (now (rightSamples .entry)) (now (rightFronts .entry)) (now (rightLimits .entry)) (now (rightMarks .entry)) (now (combined .entry)))
+        view block (filled block candidate (now (bytes .entry))) (r .old) (r .new) ⌝ }
+{
+    let columns = w as usize;
+    let rows = h as usize;
+    let column = block.column as usize;
+    let row = block.row as usize;
+    let width = block.width as usize;
+    let height = block.height as usize;
+    if is_right(view) {
+        return trial::trial_made(
+            true,
+            rightTable,
+            share,
+            tolerance,
+            columns,
+            rows,
+            column,
+            row,
+            width,
+            height,
+            right,
+            rightDepths,
+            rightLimits,
+            candidate,
+            bytes,
+            leftSamples,
+            leftFronts,
+            leftMarks,
+            combined,
+            reference,
+        );
+    }
+    trial::trial_made(
+        false,
+        leftTable,
+        share,
+        tolerance,
+        columns,
+        rows,
+        column,
+        row,
+        width,
+        height,
+        left,
+        leftDepths,
+        leftLimits,
+        candidate,
+        bytes,
+        rightSamples,
+        rightFronts,
+        rightMarks,
+        combined,
+        reference,
+    )
+}
+
+// The same for a candidate of any kind.
 fn try_candidate(
     w: u32,
     h: u32,
@@ -80,68 +275,72 @@ fn try_candidate(
     combined: &[u16],
     view: u32,
     block: Block,
-    candidate: &[u8],
+    candidate: Candidate,
+    bytes: &[u8],
 ) -> Sums
     requires { ⌜ earlyNumber (settingsOf w h (now leftTable) (now rightTable) share tolerance 0)
         (pictures (now left) (now right) (now reference))
         (depths (now leftDepths) (now rightDepths))
         (heldOf (now leftSamples) (now leftFronts) (now leftLimits) (now leftMarks) (now rightSamples) (now rightFronts) (now rightLimits) (now rightMarks) (now combined))
-        view block (length (now candidate)) ≡ 0 ⌝ }
+        view block candidate (length (now bytes)) ≡ 0 ⌝ }
     ensures { λ r. ⌜ Tried (settingsOf w h (now (leftTable .entry)) (now (rightTable .entry)) share tolerance 0)
         (pictures (now (left .entry)) (now (right .entry)) (now (reference .entry)))
         (depths (now (leftDepths .entry)) (now (rightDepths .entry)))
         (heldOf (now (leftSamples .entry)) (now (leftFronts .entry)) (now (leftLimits .entry)) (now (leftMarks .entry)) (now (rightSamples .entry)) (now (rightFronts .entry)) (now (rightLimits .entry)) (now (rightMarks .entry)) (now (combined .entry)))
-        view block (now (candidate .entry)) (r .old) (r .new) ⌝ }
+        view block (filled block candidate (now (bytes .entry))) (r .old) (r .new) ⌝ }
 {
-    let columns = w as usize;
-    let rows = h as usize;
-    let column = block.column as usize;
-    let row = block.row as usize;
-    let width = block.width as usize;
-    let height = block.height as usize;
-    if view == 1 {
-        return trial::trial_block(
-            true,
+    if fill::lent(candidate) {
+        return try_lent(
+            w,
+            h,
+            leftTable,
             rightTable,
             share,
             tolerance,
-            columns,
-            rows,
-            column,
-            row,
-            width,
-            height,
+            left,
             right,
+            reference,
+            leftDepths,
             rightDepths,
-            rightLimits,
-            candidate,
             leftSamples,
             leftFronts,
+            leftLimits,
             leftMarks,
+            rightSamples,
+            rightFronts,
+            rightLimits,
+            rightMarks,
             combined,
-            reference,
+            view,
+            block,
+            bytes,
         );
     }
-    trial::trial_block(
-        false,
+    try_made(
+        w,
+        h,
         leftTable,
+        rightTable,
         share,
         tolerance,
-        columns,
-        rows,
-        column,
-        row,
-        width,
-        height,
         left,
+        right,
+        reference,
         leftDepths,
+        rightDepths,
+        leftSamples,
+        leftFronts,
         leftLimits,
-        candidate,
+        leftMarks,
         rightSamples,
         rightFronts,
+        rightLimits,
         rightMarks,
         combined,
-        reference,
+        view,
+        block,
+        candidate,
+        bytes,
     )
 }
 
@@ -170,13 +369,14 @@ pub fn decide<'a>(
     combined: &[u16],
     view: u32,
     block: Block,
-    candidate: &[u8],
+    candidate: Candidate,
+    bytes: &[u8],
 ) -> Decision
     ensures { λ r. ⌜ Decided (settingsOf w h (now (leftTable .entry)) (now (rightTable .entry)) share tolerance total)
         (pictures (now (left .entry)) (now (right .entry)) (now (reference .entry)))
         (depths (now (leftDepths .entry)) (now (rightDepths .entry)))
         (heldOf (now (leftSamples .entry)) (now (leftFronts .entry)) (now (leftLimits .entry)) (now (leftMarks .entry)) (now (rightSamples .entry)) (now (rightFronts .entry)) (now (rightLimits .entry)) (now (rightMarks .entry)) (now (combined .entry)))
-        view block (now (candidate .entry)) r ⌝ }
+        view block candidate (now (bytes .entry)) r ⌝ }
 {
     let lengths = Lengths {
         left: ViewLengths {
@@ -198,17 +398,8 @@ pub fn decide<'a>(
         reference: reference.len(),
         combined: combined.len(),
     };
-    let first = validate::early(
-        w,
-        h,
-        leftTable,
-        rightTable,
-        share,
-        lengths,
-        view,
-        block,
-        candidate.len(),
-    );
+    let before = validate::early(w, h, leftTable, rightTable, share, lengths, view, block);
+    let first = validate::with_candidate(before, block, candidate, bytes.len());
     if model::number(first) != 0 {
         return refused(first, total);
     }
@@ -236,6 +427,7 @@ pub fn decide<'a>(
         view,
         block,
         candidate,
+        bytes,
     );
     let most = most_total(w, h);
     judge(total, sums.old, sums.new, most)

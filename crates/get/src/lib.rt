@@ -1,5 +1,6 @@
 // GET answers what a candidate for a block of a view would change of the total.
 use model::Block;
+use model::Candidate;
 use model::Settings;
 use model::Trial;
 ghost use Rattle.model.specs.Planes as planes;
@@ -24,13 +25,14 @@ pub fn get(
     combined: &[u16],
     view: u32,
     block: Block,
-    candidate: &[u8],
+    candidate: Candidate,
+    bytes: &[u8],
 ) -> Trial
     ensures { λ r. ⌜ GetPost settings
         (planes.pictures (now (left .entry)) (now (right .entry)) (now (reference .entry)))
         (planes.depths (now (leftDepths .entry)) (now (rightDepths .entry)))
         (planes.held (planes.view (now (leftSamples .entry)) (now (leftFronts .entry)) (now (leftLimits .entry)) (now (leftMarks .entry))) (planes.view (now (rightSamples .entry)) (now (rightFronts .entry)) (now (rightLimits .entry)) (now (rightMarks .entry))) (now (combined .entry)))
-        view block (now (candidate .entry)) r ⌝ }
+        view block candidate (now (bytes .entry)) r ⌝ }
 {
     let decision = decide::decide(
         settings.w,
@@ -57,6 +59,7 @@ pub fn get(
         view,
         block,
         candidate,
+        bytes,
     );
     let refusal = decision.refusal;
     let change = decision.change;

@@ -4,9 +4,11 @@ use model::Block;
 use model::Count;
 use model::Report;
 use model::Settings;
+use shape::Shape;
 ghost use Rattle.model.specs.Planes as planes;
 ghost use Rattle.model.specs.Promises.{RenderPost, OpenPost, GetPost, SetPost, CheckPost, HolesPost};
 ghost use Rattle.decide.specs.Decided.{settingsOf};
+ghost use Rattle.shape.specs.Shapes.{candidateOf, bytesOf};
 ghost use Rattle.luphwezane.specs.Exports.{Rendered, OpenedOut, TriedOut, EditedOut, ReportOut, CountOut};
 
 // RENDER.
@@ -104,12 +106,14 @@ pub extern "C" fn luph_raw_get<'a>(
     combined: &[u16],
     view: u32,
     block: Block,
-    candidate: &[u8],
+    shape: Shape,
+    bytes: &[u8],
     change: &mut i64,
 ) -> u32
     ensures { λ r. ⌜ TriedOut (GetPost (settingsOf w h (now (leftTable .entry)) (now (rightTable .entry)) share tolerance total) (planes.pictures (now (left .entry)) (now (right .entry)) (now (reference .entry))) (planes.depths (now (leftDepths .entry)) (now (rightDepths .entry)))
-        (planes.held (planes.view (now (leftSamples .entry)) (now (leftFronts .entry)) (now (leftLimits .entry)) (now (leftMarks .entry))) (planes.view (now (rightSamples .entry)) (now (rightFronts .entry)) (now (rightLimits .entry)) (now (rightMarks .entry))) (now (combined .entry))) view block (now (candidate .entry))) r (now (change .entry)) (now (change .exit)) ⌝ }
+        (planes.held (planes.view (now (leftSamples .entry)) (now (leftFronts .entry)) (now (leftLimits .entry)) (now (leftMarks .entry))) (planes.view (now (rightSamples .entry)) (now (rightFronts .entry)) (now (rightLimits .entry)) (now (rightMarks .entry))) (now (combined .entry))) view block (candidateOf shape) (bytesOf shape (now (bytes .entry)))) r (now (change .entry)) (now (change .exit)) ⌝ }
 {
+    let n = shape::lent(shape.kind, bytes.len());
     let tried = decide::decide(
         w,
         h,
@@ -134,7 +138,8 @@ pub extern "C" fn luph_raw_get<'a>(
         combined,
         view,
         block,
-        candidate,
+        shape::candidate_of(shape),
+        &bytes[..n],
     );
     let refusal = tried.refusal;
     let number = model::number(refusal);
@@ -165,14 +170,16 @@ pub extern "C" fn luph_raw_set(
     combined: &mut [u16],
     view: u32,
     block: Block,
-    candidate: &[u8],
+    shape: Shape,
+    bytes: &[u8],
     change: &mut i64,
     total: &mut u64,
 ) -> u32
     ensures { λ r. ⌜ EditedOut (SetPost settings (planes.pictures (now (left .entry)) (now (right .entry)) (now (reference .entry))) (planes.depths (now (leftDepths .entry)) (now (rightDepths .entry))) (planes.depths (now (leftDepths .exit)) (now (rightDepths .exit)))
         (planes.held (planes.view (now (leftSamples .entry)) (now (leftFronts .entry)) (now (leftLimits .entry)) (now (leftMarks .entry))) (planes.view (now (rightSamples .entry)) (now (rightFronts .entry)) (now (rightLimits .entry)) (now (rightMarks .entry))) (now (combined .entry)))
-        (planes.held (planes.view (now (leftSamples .exit)) (now (leftFronts .exit)) (now (leftLimits .exit)) (now (leftMarks .exit))) (planes.view (now (rightSamples .exit)) (now (rightFronts .exit)) (now (rightLimits .exit)) (now (rightMarks .exit))) (now (combined .exit))) view block (now (candidate .entry))) r (now (change .entry)) (now (change .exit)) (now (total .entry)) (now (total .exit)) ⌝ }
+        (planes.held (planes.view (now (leftSamples .exit)) (now (leftFronts .exit)) (now (leftLimits .exit)) (now (leftMarks .exit))) (planes.view (now (rightSamples .exit)) (now (rightFronts .exit)) (now (rightLimits .exit)) (now (rightMarks .exit))) (now (combined .exit))) view block (candidateOf shape) (bytesOf shape (now (bytes .entry)))) r (now (change .entry)) (now (change .exit)) (now (total .entry)) (now (total .exit)) ⌝ }
 {
+    let n = shape::lent(shape.kind, bytes.len());
     let edited = set::set(
         settings,
         left,
@@ -191,7 +198,8 @@ pub extern "C" fn luph_raw_set(
         combined,
         view,
         block,
-        candidate,
+        shape::candidate_of(shape),
+        &bytes[..n],
     );
     let refusal = edited.refusal;
     let number = model::number(refusal);

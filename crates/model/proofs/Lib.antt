@@ -13,6 +13,7 @@ pub mod Written
 pub mod Totals
 pub mod Locality
 pub mod Refusals
+pub mod Candidates
 pub mod Pairs
 pub mod Reports
 pub mod Readings

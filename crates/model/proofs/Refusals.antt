@@ -1,6 +1,6 @@
 -- The refusals: each test as plain facts, and what a number of a list says of the tests.
 --     ..-yes, ..-facts                    a test from its facts, and the facts from the test
---     common-rest, common-stays, ..       a number that applies is the same whatever follows in the list; where none applies, what follows decides
+--     Before, common-before, ..           a number that applies is the same whatever follows in the list; where none applies, what follows decides
 --     call-late, call-early               8 decides exactly where nothing before it does
 --     view-first, block-next, ..          the first that applies wins
 --     in-range-sound                      in a sound session 8 never applies
@@ -17,10 +17,14 @@ use lib.IntN.{ℤ, pos, _+ℤ_, _-ℤ_, +ℤ-comm, -ℤ-+ℤ-cancel}
 use borrow.Author.Tests.{le-leb, leb-true, eq-eqb, eqb-true, eqb-false}
 use Rattle.model.specs.declared.Settings.{Settings}
 use Rattle.model.specs.declared.Block.{Block}
+use Rattle.model.specs.declared.Split.the-variants.{Line, Mask}
+use Rattle.model.specs.declared.Candidate.{Candidate}
+use Rattle.model.specs.declared.Candidate.the-variants.{Full, Flat, Regions}
 use Rattle.model.specs.Marks.{markBytes}
 use Rattle.model.specs.Combined.{worst}
 use Rattle.model.specs.Planes.{Pictures, Depths, View, Held, area, withTotal}
-use Rattle.model.specs.Refusals.{unless, sideOk, sizeOk, picturesSized, depthsSized, viewSized, heldSized, planesSized, upTo, tableOk, tablesOk, shareOk, blockOk, viewOk, candidateOk, within, inRange, picturesOk, commonThen, ownThen, openNumber, earlyNumber, callNumber}
+use Rattle.model.specs.Candidates.{positions, lineOk}
+use Rattle.model.specs.Refusals.{unless, sideOk, sizeOk, picturesSized, depthsSized, viewSized, heldSized, planesSized, upTo, tableOk, tablesOk, shareOk, blockOk, viewOk, candidateThen, within, inRange, picturesOk, commonThen, ownThen, openNumber, earlyNumber, callNumber}
 use Rattle.model.proofs.Choice.{bool-cases, and-true, and-left, and-right}
 use Rattle.model.proofs.Fresh.{DepthsOf}
 
@@ -33,6 +37,20 @@ unless-true false k rest h = absurd (omega arith)
 pub unless-rest : (t : Bool) (k rest : ℕ) → unless t (suc k) rest ≡ 0 → rest ≡ 0
 unless-rest true k rest h = h
 unless-rest false k rest h = absurd (omega arith)
+
+-- ---- lists of tests
+
+-- Tests before the rest of a list: where none of them turns the call down the rest decides, and elsewhere it does not count.
+pub record Before (tests : ℕ → ℕ) : Type 0 where
+  pub rest : (k : ℕ) → tests 0 ≡ 0 → tests k ≡ k
+  pub stays : (k : ℕ) → (tests 0 ≡ 0 → ⊥) → tests k ≡ tests 0
+
+pub none-before : Before (λ k. k)
+none-before = record { rest = λ k e. refl; stays = λ k ne. absurd (ne refl) }
+
+pub one-before : (t : Bool) (n : ℕ) (tests : ℕ → ℕ) → Before tests → Before (λ k. unless t (suc n) (tests k))
+one-before true n tests f = f
+one-before false n tests f = record { rest = λ k e. absurd (omega arith); stays = λ k ne. refl }
 
 -- ---- each test as plain facts
 
@@ -228,103 +246,84 @@ common-yes s p d h rest f =
 
 -- ---- a call's own tests
 
-module _ (s : Settings) (v : ℕ) (b : Block) (n : ℕ) where
-  -- the first that applies wins: 6, then 5, then 7
-  pub view-first : (rest : ℕ) → viewOk v ≡ false → ownThen s v b n rest ≡ 6
+module _ (s : Settings) (v : ℕ) (b : Block) (c : Candidate) (n : ℕ) where
+  -- the first that applies wins: 6, then 5, then the candidate's own number
+  pub view-first : (rest : ℕ) → viewOk v ≡ false → ownThen s v b c n rest ≡ 6
   unfolding ownThen
   view-first rest e = rw e
 
-  pub block-next : (rest : ℕ) → viewOk v ≡ true → blockOk s b ≡ false → ownThen s v b n rest ≡ 5
+  pub block-next : (rest : ℕ) → viewOk v ≡ true → blockOk s b ≡ false → ownThen s v b c n rest ≡ 5
   unfolding ownThen
   block-next rest e f = rw (e, f)
 
-  pub candidate-last : (rest : ℕ) → viewOk v ≡ true → blockOk s b ≡ true → candidateOk b n ≡ false → ownThen s v b n rest ≡ 7
+  pub candidate-last : (rest : ℕ) → viewOk v ≡ true → blockOk s b ≡ true → ownThen s v b c n rest ≡ candidateThen b c n rest
   unfolding ownThen
-  candidate-last rest e f g = rw (e, f, g)
+  candidate-last rest e f = rw (e, f)
 
 -- what a call's own tests have shown
-pub record Own (s : Settings) (v : ℕ) (b : Block) (n : ℕ) : Type 0 where
+pub record Own (s : Settings) (v : ℕ) (b : Block) (c : Candidate) (n : ℕ) : Type 0 where
   pub view : v ≤ 1
   pub block : Inside s b
-  pub entries : n ≡ b .width * b .height
+  pub candidate : candidateThen b c n 0 ≡ 0
 
-pub own-facts : (s : Settings) (v : ℕ) (b : Block) (n : ℕ) → ownThen s v b n 0 ≡ 0 → Own s v b n
+pub own-facts : (s : Settings) (v : ℕ) (b : Block) (c : Candidate) (n : ℕ) → ownThen s v b c n 0 ≡ 0 → Own s v b c n
 unfolding ownThen
-own-facts s v b n e =
+own-facts s v b c n e =
     let e₁ = unless-rest (viewOk v) 5 _ e in
-    let e₂ = unless-rest (blockOk s b) 4 _ e₁ in
     record {
       view = leb-true v 1 (unless-true (viewOk v) 5 _ e);
       block = block-facts s b (unless-true (blockOk s b) 4 _ e₁);
-      entries = eqb-true n (b .width * b .height) (unless-true (candidateOk b n) 6 0 e₂);
+      candidate = unless-rest (blockOk s b) 4 _ e₁;
     }
 
 -- ---- lists of numbers
 
-abbrev four : Bool → Bool → Bool → Bool → ℕ → ℕ
-four x y z t rest = unless x 1 (unless y 2 (unless z 3 (unless t 4 rest)))
+pub common-before : (s : Settings) (p : Pictures) (d : Depths) (h : Held) → Before (commonThen s p d h)
+unfolding commonThen
+common-before s p d h =
+    one-before (sizeOk s) 0 _ (one-before (planesSized s p d h) 1 _ (one-before (tablesOk s) 2 _ (one-before (shareOk s) 3 _ none-before)))
 
-four-rest : (x y z t : Bool) (rest : ℕ) → four x y z t 0 ≡ 0 → four x y z t rest ≡ rest
-four-rest true true true true rest e = refl
-four-rest true true true false rest e = absurd (omega arith)
-four-rest true true false t rest e = absurd (omega arith)
-four-rest true false z t rest e = absurd (omega arith)
-four-rest false y z t rest e = absurd (omega arith)
+pub candidate-before : (b : Block) (c : Candidate) (n : ℕ) → Before (candidateThen b c n)
+unfolding candidateThen
+candidate-before b Full n = one-before (eqb n (positions b)) 6 _ none-before
+candidate-before b (Flat depth) n = none-before
+candidate-before b (Regions value0 value1 (Line start end)) n = one-before (lineOk b start end) 13 _ none-before
+candidate-before b (Regions value0 value1 Mask) n = one-before (eqb n (markBytes (positions b))) 14 _ none-before
 
-four-stays : (x y z t : Bool) (rest : ℕ) → (four x y z t 0 ≡ 0 → ⊥) → four x y z t rest ≡ four x y z t 0
-four-stays true true true true rest ne = absurd (ne refl)
-four-stays true true true false rest ne = refl
-four-stays true true false t rest ne = refl
-four-stays true false z t rest ne = refl
-four-stays false y z t rest ne = refl
+pub own-before : (s : Settings) (v : ℕ) (b : Block) (c : Candidate) (n : ℕ) → Before (ownThen s v b c n)
+unfolding ownThen
+own-before s v b c n = one-before (viewOk v) 5 _ (one-before (blockOk s b) 4 _ (candidate-before b c n))
 
-abbrev three : Bool → Bool → Bool → ℕ → ℕ
-three x y z rest = unless x 6 (unless y 5 (unless z 7 rest))
+-- a call's own tests answer 0, 5, 6, 7, 14 or 15
+abbrev Usual : ℕ → Type 0
+Usual n = (n ≡ 0) ⊎ ((n ≡ 5) ⊎ ((n ≡ 6) ⊎ ((n ≡ 7) ⊎ ((n ≡ 14) ⊎ (n ≡ 15)))))
 
-three-rest : (x y z : Bool) (rest : ℕ) → three x y z 0 ≡ 0 → three x y z rest ≡ rest
-three-rest true true true rest e = refl
-three-rest true true false rest e = absurd (omega arith)
-three-rest true false z rest e = absurd (omega arith)
-three-rest false y z rest e = absurd (omega arith)
+usual-unless : (t : Bool) (k n : ℕ) → Usual k → Usual n → Usual (unless t k n)
+usual-unless true k n f g = g
+usual-unless false k n f g = f
 
-three-stays : (x y z : Bool) (rest : ℕ) → (three x y z 0 ≡ 0 → ⊥) → three x y z rest ≡ three x y z 0
-three-stays true true true rest ne = absurd (ne refl)
-three-stays true true false rest ne = refl
-three-stays true false z rest ne = refl
-three-stays false y z rest ne = refl
+candidate-usual : (b : Block) (c : Candidate) (n : ℕ) → Usual (candidateThen b c n 0)
+unfolding candidateThen
+candidate-usual b Full n = usual-unless (eqb n (positions b)) 7 0 (inr (inr (inr (inl refl)))) (inl refl)
+candidate-usual b (Flat depth) n = inl refl
+candidate-usual b (Regions value0 value1 (Line start end)) n = usual-unless (lineOk b start end) 14 0 (inr (inr (inr (inr (inl refl))))) (inl refl)
+candidate-usual b (Regions value0 value1 Mask) n = usual-unless (eqb n (markBytes (positions b))) 15 0 (inr (inr (inr (inr (inr refl))))) (inl refl)
 
-three-usual : (x y z : Bool) → (three x y z 0 ≡ 0) ⊎ ((three x y z 0 ≡ 5) ⊎ ((three x y z 0 ≡ 6) ⊎ (three x y z 0 ≡ 7)))
-three-usual true true true = inl refl
-three-usual true true false = inr (inr (inr refl))
-three-usual true false z = inr (inl refl)
-three-usual false y z = inr (inr (inl refl))
+pub own-usual : (s : Settings) (v : ℕ) (b : Block) (c : Candidate) (n : ℕ) → Usual (ownThen s v b c n 0)
+unfolding ownThen
+own-usual s v b c n =
+    usual-unless (viewOk v) 6 _ (inr (inr (inl refl))) (usual-unless (blockOk s b) 5 _ (inr (inl refl)) (candidate-usual b c n))
 
-module _ (s : Settings) (v : ℕ) (b : Block) (n : ℕ) where
-  pub own-rest : (rest : ℕ) → ownThen s v b n 0 ≡ 0 → ownThen s v b n rest ≡ rest
-  unfolding ownThen
-  own-rest rest e = three-rest (viewOk v) (blockOk s b) (candidateOk b n) rest e
-
-  pub own-stays : (rest : ℕ) → (ownThen s v b n 0 ≡ 0 → ⊥) → ownThen s v b n rest ≡ ownThen s v b n 0
-  unfolding ownThen
-  own-stays rest ne = three-stays (viewOk v) (blockOk s b) (candidateOk b n) rest ne
-
-  -- a call's own tests answer 0, 5, 6 or 7
-  pub own-usual : (ownThen s v b n 0 ≡ 0) ⊎ ((ownThen s v b n 0 ≡ 5) ⊎ ((ownThen s v b n 0 ≡ 6) ⊎ (ownThen s v b n 0 ≡ 7)))
-  unfolding ownThen
-  own-usual = three-usual (viewOk v) (blockOk s b) (candidateOk b n)
-
-pub own-total : (s : Settings) (t v : ℕ) (b : Block) (n rest : ℕ) → ownThen (withTotal s t) v b n rest ≡ ownThen s v b n rest
+pub own-total : (s : Settings) (t v : ℕ) (b : Block) (c : Candidate) (n rest : ℕ) → ownThen (withTotal s t) v b c n rest ≡ ownThen s v b c n rest
 unfolding ownThen blockOk
-own-total s t v b n rest = refl
+own-total s t v b c n rest = refl
 
 module _ (s : Settings) (p : Pictures) (d : Depths) (h : Held) where
-  pub common-rest : (rest : ℕ) → commonThen s p d h 0 ≡ 0 → commonThen s p d h rest ≡ rest
-  unfolding commonThen
-  common-rest rest e = four-rest (sizeOk s) (planesSized s p d h) (tablesOk s) (shareOk s) rest e
+  common-rest : (rest : ℕ) → commonThen s p d h 0 ≡ 0 → commonThen s p d h rest ≡ rest
+  common-rest = common-before s p d h .rest
 
-  pub common-stays : (rest : ℕ) → (commonThen s p d h 0 ≡ 0 → ⊥) → commonThen s p d h rest ≡ commonThen s p d h 0
-  unfolding commonThen
-  common-stays rest ne = four-stays (sizeOk s) (planesSized s p d h) (tablesOk s) (shareOk s) rest ne
+  common-stays : (rest : ℕ) → (commonThen s p d h 0 ≡ 0 → ⊥) → commonThen s p d h rest ≡ commonThen s p d h 0
+  common-stays = common-before s p d h .stays
 
   -- OPEN's 21 comes last
   pub open-stays : (commonThen s p d h 0 ≡ 0 → ⊥) → openNumber s p d h ≡ commonThen s p d h 0
@@ -339,25 +338,25 @@ module _ (s : Settings) (p : Pictures) (d : Depths) (h : Held) where
   pub rest-passed : (rest : ℕ) → commonThen s p d h rest ≡ 0 → rest ≡ 0
   rest-passed rest e = sym (common-rest rest (common-passed rest e)) ∙ e
 
-  module _ (v : ℕ) (b : Block) (n : ℕ) where
+  module _ (v : ℕ) (b : Block) (c : Candidate) (n : ℕ) where
     -- a call with no early refusal has passed the common tests, and its own
-    pub early-common : earlyNumber s p d h v b n ≡ 0 → commonThen s p d h 0 ≡ 0
-    early-common e = common-passed (ownThen s v b n 0) e
+    pub early-common : earlyNumber s p d h v b c n ≡ 0 → commonThen s p d h 0 ≡ 0
+    early-common e = common-passed (ownThen s v b c n 0) e
 
-    pub early-own : earlyNumber s p d h v b n ≡ 0 → ownThen s v b n 0 ≡ 0
-    early-own e = rest-passed (ownThen s v b n 0) e
+    pub early-own : earlyNumber s p d h v b c n ≡ 0 → ownThen s v b c n 0 ≡ 0
+    early-own e = rest-passed (ownThen s v b c n 0) e
 
     -- with no early refusal, 8 decides
-    pub call-late : (x : ℤ) → earlyNumber s p d h v b n ≡ 0 → callNumber s p d h v b n x ≡ unless (inRange s x) 8 0
-    call-late x e = common-rest _ (early-common e) ∙ own-rest s v b n _ (early-own e)
+    pub call-late : (x : ℤ) → earlyNumber s p d h v b c n ≡ 0 → callNumber s p d h v b c n x ≡ unless (inRange s x) 8 0
+    call-late x e = common-rest _ (early-common e) ∙ own-before s v b c n .rest _ (early-own e)
 
-    pub call-early : (x : ℤ) → (earlyNumber s p d h v b n ≡ 0 → ⊥) → callNumber s p d h v b n x ≡ earlyNumber s p d h v b n
+    pub call-early : (x : ℤ) → (earlyNumber s p d h v b c n ≡ 0 → ⊥) → callNumber s p d h v b c n x ≡ earlyNumber s p d h v b c n
     call-early x ne =
         bool-cases (eqb (commonThen s p d h 0) 0)
         (λ t.
         let z = eqb-true (commonThen s p d h 0) 0 t in
-        let ne′ : ownThen s v b n 0 ≡ 0 → ⊥ = λ q. ne (common-rest _ z ∙ q) in
-        common-rest _ z ∙ own-stays s v b n _ ne′ ∙ sym (common-rest _ z))
+        let ne′ : ownThen s v b c n 0 ≡ 0 → ⊥ = λ q. ne (common-rest _ z ∙ q) in
+        common-rest _ z ∙ own-before s v b c n .stays _ ne′ ∙ sym (common-rest _ z))
         (λ f. let z = eqb-false (commonThen s p d h 0) 0 f in common-stays _ z ∙ sym (common-stays _ z))
 
 -- ---- 8

@@ -7,6 +7,7 @@ use lib.IntN.{ℤ, pos, _+ℤ_, natAbs}
 use lib.ListN.{length}
 use Rattle.model.specs.declared.Settings.{Settings}
 use Rattle.model.specs.declared.Block.{Block}
+use Rattle.model.specs.declared.Candidate.{Candidate}
 use Rattle.model.specs.declared.Refusal.{Refusal}
 use Rattle.model.specs.declared.Opened.{Opened}
 use Rattle.model.specs.declared.Trial.{Trial}
@@ -19,6 +20,7 @@ use Rattle.model.specs.Views.{isRight, viewRow}
 use Rattle.model.specs.Marks.{holesIn}
 use Rattle.model.specs.Planes.{Pictures, Depths, Held, Strip, withTotal, tableOf, readHeld, heldRow}
 use Rattle.model.specs.Fresh.{stripOf, fresh, freshTotal}
+use Rattle.model.specs.Candidates.{filled}
 use Rattle.model.specs.Blocks.{inRows, written, changeOf}
 use Rattle.model.specs.Reports.{reportOf}
 use Rattle.model.specs.Refusals.{numberOf, reportNumber, countNumber, openNumber, checkNumber, earlyNumber, callNumber, inRange, renderNumber, holesNumber}
@@ -42,15 +44,16 @@ pub record Sound (s : Settings) (p : Pictures) (d : Depths) (h : Held) : Type 0 
   pub held : h ≡ fresh s p d
   pub total : s .total ≡ freshTotal s p d
 
--- GET answers the change of the total; it is lent nothing for writing. `found` is the change that it found. Where the session is sound as it
--- is read, `found` is decided and in range, so that 8 never occurs; elsewhere it is undecided, and 8 is judged by it.
-pub record GetPost (s : Settings) (p : Pictures) (d : Depths) (h : Held) (v : ℕ) (b : Block) (c : List ℕ) (r : Trial) : Type 0 where
+-- GET answers the change of the total; it is lent nothing for writing. x are the bytes lent with the candidate c, and the answer is that for the block so
+-- filled. `found` is the change that it found. Where the session is sound as it is read, `found` is decided and in range, so that 8 never occurs;
+-- elsewhere it is undecided, and 8 is judged by it.
+pub record GetPost (s : Settings) (p : Pictures) (d : Depths) (h : Held) (v : ℕ) (b : Block) (c : Candidate) (x : List ℕ) (r : Trial) : Type 0 where
   pub found : ℤ
-  pub number : numberOf (r .refusal) ≡ callNumber s p d h v b (length c) found
+  pub number : numberOf (r .refusal) ≡ callNumber s p d h v b c (length x) found
   pub refused : (numberOf (r .refusal) ≡ 0 → ⊥) → r .change ≡ pos 0
   pub change : numberOf (r .refusal) ≡ 0 → r .change ≡ found
-  pub decided : earlyNumber s p d h v b (length c) ≡ 0 → Sound s p d (readHeld h) → found ≡ changeOf s p d v b c
-  pub in-range : earlyNumber s p d h v b (length c) ≡ 0 → Sound s p d (readHeld h) → inRange s found ≡ true
+  pub decided : earlyNumber s p d h v b c (length x) ≡ 0 → Sound s p d (readHeld h) → found ≡ changeOf s p d v b (filled b c x)
+  pub in-range : earlyNumber s p d h v b c (length x) ≡ 0 → Sound s p d (readHeld h) → inRange s found ≡ true
 
 -- Whatever the planes hold, the other view's planes and the rows outside the block are as they were.
 pub record Untouched (s : Settings) (v : ℕ) (b : Block) (h₀ h : Held) : Type 0 where
@@ -58,24 +61,24 @@ pub record Untouched (s : Settings) (v : ℕ) (b : Block) (h₀ h : Held) : Type
   pub right : isRight v ≡ false → h .right ≡ h₀ .right
   pub rows : (y : ℕ) → inRows b y ≡ false → heldRow (s .w) h y ≡ heldRow (s .w) h₀ y
 
--- SET refuses as GET does; otherwise it writes the candidate, brings the held planes up to date and answers the change and the settings
--- with the new total. d₀ and h₀ are the planes at entry, d and h at exit; `found` is as for GET. A session that is sound stays so, as it stands
--- and as it is read.
-pub record SetPost (s : Settings) (p : Pictures) (d₀ d : Depths) (h₀ h : Held) (v : ℕ) (b : Block) (c : List ℕ) (r : Edited) : Type 0 where
+-- SET refuses as GET does; otherwise it writes the block so filled, brings the held planes up to date and answers the change and the settings
+-- with the new total. d₀ and h₀ are the planes at entry, d and h at exit; c, x and `found` are as for GET. A session that is sound stays so, as it
+-- stands and as it is read.
+pub record SetPost (s : Settings) (p : Pictures) (d₀ d : Depths) (h₀ h : Held) (v : ℕ) (b : Block) (c : Candidate) (x : List ℕ) (r : Edited) : Type 0 where
   pub found : ℤ
-  pub number : numberOf (r .refusal) ≡ callNumber s p d₀ h₀ v b (length c) found
+  pub number : numberOf (r .refusal) ≡ callNumber s p d₀ h₀ v b c (length x) found
   pub refused-depths : (numberOf (r .refusal) ≡ 0 → ⊥) → d ≡ d₀
   pub refused-held : (numberOf (r .refusal) ≡ 0 → ⊥) → h ≡ h₀
   pub refused-settings : (numberOf (r .refusal) ≡ 0 → ⊥) → r .settings ≡ s
   pub refused-change : (numberOf (r .refusal) ≡ 0 → ⊥) → r .change ≡ pos 0
   pub change : numberOf (r .refusal) ≡ 0 → r .change ≡ found
   pub settings : numberOf (r .refusal) ≡ 0 → r .settings ≡ withTotal s (natAbs (pos (s .total) +ℤ found))
-  pub depths : numberOf (r .refusal) ≡ 0 → d ≡ written s v b c d₀
+  pub depths : numberOf (r .refusal) ≡ 0 → d ≡ written s v b (filled b c x) d₀
   pub untouched : numberOf (r .refusal) ≡ 0 → Untouched s v b h₀ h
-  pub decided : earlyNumber s p d₀ h₀ v b (length c) ≡ 0 → Sound s p d₀ (readHeld h₀) → found ≡ changeOf s p d₀ v b c
-  pub in-range : earlyNumber s p d₀ h₀ v b (length c) ≡ 0 → Sound s p d₀ (readHeld h₀) → inRange s found ≡ true
-  pub held : numberOf (r .refusal) ≡ 0 → Sound s p d₀ h₀ → h ≡ fresh s p (written s v b c d₀)
-  pub read : numberOf (r .refusal) ≡ 0 → Sound s p d₀ (readHeld h₀) → readHeld h ≡ fresh s p (written s v b c d₀)
+  pub decided : earlyNumber s p d₀ h₀ v b c (length x) ≡ 0 → Sound s p d₀ (readHeld h₀) → found ≡ changeOf s p d₀ v b (filled b c x)
+  pub in-range : earlyNumber s p d₀ h₀ v b c (length x) ≡ 0 → Sound s p d₀ (readHeld h₀) → inRange s found ≡ true
+  pub held : numberOf (r .refusal) ≡ 0 → Sound s p d₀ h₀ → h ≡ fresh s p (written s v b (filled b c x) d₀)
+  pub read : numberOf (r .refusal) ≡ 0 → Sound s p d₀ (readHeld h₀) → readHeld h ≡ fresh s p (written s v b (filled b c x) d₀)
 
 -- CHECK compares every held entry with a fresh drawing.
 pub record CheckPost (s : Settings) (p : Pictures) (d : Depths) (h : Held) (r : Report) : Type 0 where

@@ -8,7 +8,9 @@ use lib.Dec.{leb, eqb}
 use Rattle.model.specs.declared.Settings.{Settings}
 use Rattle.model.specs.declared.Block.{Block}
 use Rattle.model.specs.declared.Refusal.{Refusal}
-use Rattle.model.specs.declared.Refusal.the-variants.{None, Size, Plane, Table, Share, Bounds, View, Candidate, Total, Sample}
+use Rattle.model.specs.declared.Split.the-variants.{Line, Mask}
+use Rattle.model.specs.declared.Candidate.{Candidate}
+use Rattle.model.specs.declared.Candidate.the-variants.{Full, Flat, Regions}
 use Rattle.model.specs.declared.Report.{Report}
 use Rattle.model.specs.declared.Count.{Count}
 use Rattle.model.specs.Row.{greatest}
@@ -16,19 +18,22 @@ use Rattle.model.specs.Marks.{markBytes}
 use Rattle.model.specs.Combined.{worst}
 use Rattle.model.specs.Planes as planes
 use Rattle.model.specs.Planes.{Pictures, Depths, Held, Strip, area}
+use Rattle.model.specs.Candidates.{positions, lineOk}
 
 -- the number of a refusal, 0 where the call is accepted
 abbrev pub numberOf : Refusal → ℕ
-numberOf None = 0
-numberOf Size = 1
-numberOf Plane = 2
-numberOf Table = 3
-numberOf Share = 4
-numberOf Bounds = 5
-numberOf View = 6
-numberOf Candidate = 7
-numberOf Total = 8
-numberOf Sample = 21
+numberOf Refusal.None = 0
+numberOf Refusal.Size = 1
+numberOf Refusal.Plane = 2
+numberOf Refusal.Table = 3
+numberOf Refusal.Share = 4
+numberOf Refusal.Bounds = 5
+numberOf Refusal.View = 6
+numberOf Refusal.Candidate = 7
+numberOf Refusal.Total = 8
+numberOf Refusal.Line = 14
+numberOf Refusal.Mask = 15
+numberOf Refusal.Sample = 21
 
 -- the same of what CHECK answers, and of what HOLES answers
 abbrev pub reportNumber : Report → ℕ
@@ -96,9 +101,13 @@ blockOk s b =
 abbrev pub viewOk : ℕ → Bool
 viewOk v = leb v 1
 
--- 7: candidate length not width × height
-abbrev pub candidateOk : Block → ℕ → Bool
-candidateOk b n = eqb n (b .width * b .height)
+-- 7: a full block's bytes other than width × height; 14: a line's point inside or outside the border, or a shared side; 15: mask bytes other than
+-- (area + 7) div 8; one value has no number of its own. n is the number of bytes lent.
+unfoldable pub candidateThen : Block → Candidate → ℕ → ℕ → ℕ
+candidateThen b Full n rest = unless (eqb n (positions b)) 7 rest
+candidateThen b (Flat depth) n rest = rest
+candidateThen b (Regions value0 value1 (Line start end)) n rest = unless (lineOk b start end) 14 rest
+candidateThen b (Regions value0 value1 Mask) n rest = unless (eqb n (markBytes (positions b))) 15 rest
 
 -- 8: held total plus change below 0 or above 1,046,529 × w × h
 abbrev pub within : ℤ → ℕ → Bool
@@ -119,9 +128,9 @@ picturesOk p = pictureOk (p .left) && (pictureOk (p .right) && pictureOk (p .ref
 unfoldable pub commonThen : Settings → Pictures → Depths → Held → ℕ → ℕ
 commonThen s p d h rest = unless (sizeOk s) 1 (unless (planesSized s p d h) 2 (unless (tablesOk s) 3 (unless (shareOk s) 4 rest)))
 
--- 6, 5, 7, then the rest; n is the candidate's length
-unfoldable pub ownThen : Settings → ℕ → Block → ℕ → ℕ → ℕ
-ownThen s v b n rest = unless (viewOk v) 6 (unless (blockOk s b) 5 (unless (candidateOk b n) 7 rest))
+-- 6, 5, the candidate's own number, then the rest; n is the number of bytes lent with the candidate
+unfoldable pub ownThen : Settings → ℕ → Block → Candidate → ℕ → ℕ → ℕ
+ownThen s v b c n rest = unless (viewOk v) 6 (unless (blockOk s b) 5 (candidateThen b c n rest))
 
 -- OPEN refuses 1, 2, 3, 4, then 21.
 abbrev pub openNumber : Settings → Pictures → Depths → Held → ℕ
@@ -131,13 +140,13 @@ openNumber s p d h = commonThen s p d h (unless (picturesOk p) 21 0)
 abbrev pub checkNumber : Settings → Pictures → Depths → Held → ℕ
 checkNumber s p d h = commonThen s p d h 0
 
--- GET and SET refuse 1, 2, 3, 4, 6, 5, 7, then 8, which is judged by the change that was found.
-abbrev pub callNumber : Settings → Pictures → Depths → Held → ℕ → Block → ℕ → ℤ → ℕ
-callNumber s p d h v b n change = commonThen s p d h (ownThen s v b n (unless (inRange s change) 8 0))
+-- GET and SET refuse 1, 2, 3, 4, 6, 5, by the candidate's kind 7, 14 or 15, then 8, which is judged by the change that was found.
+abbrev pub callNumber : Settings → Pictures → Depths → Held → ℕ → Block → Candidate → ℕ → ℤ → ℕ
+callNumber s p d h v b c n change = commonThen s p d h (ownThen s v b c n (unless (inRange s change) 8 0))
 
 -- the same with 8 left out
-abbrev pub earlyNumber : Settings → Pictures → Depths → Held → ℕ → Block → ℕ → ℕ
-earlyNumber s p d h v b n = commonThen s p d h (ownThen s v b n 0)
+abbrev pub earlyNumber : Settings → Pictures → Depths → Held → ℕ → Block → Candidate → ℕ → ℕ
+earlyNumber s p d h v b c n = commonThen s p d h (ownThen s v b c n 0)
 
 -- RENDER refuses 1, 2, 3, then 6; h is not tested.
 unfoldable pub stripSized : ℕ → List ℕ → List ℕ → Strip → Bool

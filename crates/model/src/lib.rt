@@ -26,6 +26,29 @@ pub struct Block {
     pub height: u32,
 }
 
+// A position of a block, counted from the block's first column and row.
+pub struct Point {
+    pub column: u32,
+    pub row: u32,
+}
+
+// What divides a block into two regions: the line from `start` to `end`, or a mask, whose bits are lent beside.
+pub enum Split {
+    Line { start: Point, end: Point },
+    Mask,
+}
+
+// What a block is filled with: its depths one by one, which are lent beside; one depth; or two regions with a depth each.
+pub enum Candidate {
+    Full,
+    Flat(u8),
+    Regions {
+        value0: u8,
+        value1: u8,
+        split: Split,
+    },
+}
+
 // The kind of a pair of neighbouring columns.
 pub enum Kind {
     Hidden,
@@ -51,6 +74,8 @@ pub enum Refusal {
     View,
     Candidate,
     Total,
+    Line,
+    Mask,
     Sample,
 }
 
@@ -101,6 +126,8 @@ pub fn number(refusal: Refusal) -> u32
         Refusal::View => 6,
         Refusal::Candidate => 7,
         Refusal::Total => 8,
+        Refusal::Line => 14,
+        Refusal::Mask => 15,
         Refusal::Sample => 21,
     }
 }

@@ -11,18 +11,20 @@ use lib.IntN.{ℤ, pos}
 use borrow.Author.Tests.{eq-eqb, ne-eqb, eqb-true, eqb-false}
 use Rattle.model.specs.declared.Settings.{Settings}
 use Rattle.model.specs.declared.Block.{Block}
+use Rattle.model.specs.declared.Candidate.{Candidate}
 use Rattle.model.specs.declared.Opened.{Opened}
 use Rattle.model.specs.declared.Trial.{Trial}
 use Rattle.model.specs.declared.Edited.{Edited}
 use Rattle.model.specs.Planes.{Pictures, Depths, Held, State, withTotal, readHeld}
 use Rattle.model.specs.Fresh.{fresh, freshTotal}
+use Rattle.model.specs.Candidates.{filled}
 use Rattle.model.specs.Blocks.{written, changeOf}
 use Rattle.model.specs.Refusals.{numberOf, unless, ownThen, earlyNumber, callNumber, inRange}
 use Rattle.model.specs.Promises.{Sound, OpenPost, GetPost, SetPost}
 use Rattle.model.proofs.Choice.{bool-cases}
 use Rattle.model.proofs.Fresh.{fresh-total, freshTotal-total}
 use Rattle.model.proofs.Written.{written-total}
-use Rattle.model.proofs.Refusals.{own-stays, own-rest, own-usual, own-total}
+use Rattle.model.proofs.Refusals.{own-facts, own-before, own-usual, own-total}
 use Rattle.model.proofs.Readings.{sound-read}
 use Rattle.model.proofs.Promises.{set-settings, set-sound}
 use Rattle.run.specs.Run.{Call, Reply, Event, Run, plainNumber, plainNext, plainAnswer, plainReply, plainState, plainEvents, plainEnd, Local, Kept, AllKept, Usual, AllUsual, RunPost, stateAfter}
@@ -32,7 +34,7 @@ use Rattle.run.proofs.Steps.{Ready, ready, ready-common, ready-written,
 
 -- ---- one call on a session that is as a fresh OPEN over d leaves it
 
-module _ (s : Settings) (p : Pictures) (d : Depths) (ok : Ready s p d) (v : ℕ) (b : Block) (c : List ℕ) where
+module _ (s : Settings) (p : Pictures) (d : Depths) (ok : Ready s p d) (v : ℕ) (b : Block) (c : Candidate) (x : List ℕ) where
   abbrev S : Settings
   S = withTotal s (freshTotal s p d)
 
@@ -42,81 +44,84 @@ module _ (s : Settings) (p : Pictures) (d : Depths) (ok : Ready s p d) (v : ℕ)
   sound-as-read : Sound S p d (readHeld (fresh s p d))
   sound-as-read = sound-read S p d (ok .depths) (ok .share) (fresh s p d) sound
 
-  early : earlyNumber S p d (fresh s p d) v b (length c) ≡ plainNumber s v b c
-  early = ready-common s p d _ _ ok ∙ own-total s _ v b (length c) 0
+  early : earlyNumber S p d (fresh s p d) v b c (length x) ≡ plainNumber s v b c x
+  early = ready-common s p d _ _ ok ∙ own-total s _ v b c (length x) 0
 
-  call : (x : ℤ) → callNumber S p d (fresh s p d) v b (length c) x ≡ ownThen s v b (length c) (unless (inRange S x) 8 0)
-  call x = ready-common s p d _ _ ok ∙ own-total s _ v b (length c) _
+  call : (k : ℤ) → callNumber S p d (fresh s p d) v b c (length x) k ≡ ownThen s v b c (length x) (unless (inRange S k) 8 0)
+  call k = ready-common s p d _ _ ok ∙ own-total s _ v b c (length x) _
 
   -- 8 never applies
   settled :
-      (x : ℤ) → (earlyNumber S p d (fresh s p d) v b (length c) ≡ 0 → Sound S p d (readHeld (fresh s p d)) → inRange S x ≡ true) →
-      callNumber S p d (fresh s p d) v b (length c) x ≡ plainNumber s v b c
-  settled x h =
-      bool-cases (eqb (plainNumber s v b c) 0)
+      (k : ℤ) → (earlyNumber S p d (fresh s p d) v b c (length x) ≡ 0 → Sound S p d (readHeld (fresh s p d)) → inRange S k ≡ true) →
+      callNumber S p d (fresh s p d) v b c (length x) k ≡ plainNumber s v b c x
+  settled k h =
+      bool-cases (eqb (plainNumber s v b c x) 0)
       (λ t.
       let e = eqb-true _ _ t in
       let i = h (early ∙ e) sound-as-read in
-      call x ∙ own-rest s v b (length c) _ e ∙ ap (λ (y : Bool). unless y 8 0) i ∙ sym e)
-      (λ f. call x ∙ own-stays s v b (length c) _ (eqb-false _ _ f))
+      call k ∙ own-before s v b c (length x) .rest _ e ∙ ap (λ (y : Bool). unless y 8 0) i ∙ sym e)
+      (λ f. call k ∙ own-before s v b c (length x) .stays _ (eqb-false _ _ f))
 
   answered :
-      (x change : ℤ) (n : ℕ) → n ≡ plainNumber s v b c → ((n ≡ 0 → ⊥) → change ≡ pos 0) → (n ≡ 0 → change ≡ x) →
-      (earlyNumber S p d (fresh s p d) v b (length c) ≡ 0 → Sound S p d (readHeld (fresh s p d)) → x ≡ changeOf S p d v b c) →
-      record { number = n; change = change } ≡ plainAnswer s p d v b c
+      (k change : ℤ) (n : ℕ) → n ≡ plainNumber s v b c x → ((n ≡ 0 → ⊥) → change ≡ pos 0) → (n ≡ 0 → change ≡ k) →
+      (earlyNumber S p d (fresh s p d) v b c (length x) ≡ 0 → Sound S p d (readHeld (fresh s p d)) → k ≡ changeOf S p d v b (filled b c x)) →
+      record { number = n; change = change } ≡ plainAnswer s p d v b c x
   unfolding plainAnswer
-  answered x change n e none some decided =
-      bool-cases (eqb (plainNumber s v b c) 0)
+  answered k change n e none some decided =
+      bool-cases (eqb (plainNumber s v b c x) 0)
       (λ t.
       let z = eqb-true _ _ t in
-      let g : change ≡ changeOf s p d v b c = some (e ∙ z) ∙ decided (early ∙ z) sound-as-read ∙ changeOf-total s _ p d v b c in
+      let g : change ≡ changeOf s p d v b (filled b c x) = some (e ∙ z) ∙ decided (early ∙ z) sound-as-read ∙ changeOf-total s _ p d v b (filled b c x) in
       rw (t, e, g))
       (λ f.
       let z : n ≡ 0 → ⊥ = λ q. eqb-false _ _ f (sym e ∙ q) in
       let g : change ≡ pos 0 = none z in
       rw (f, e, g))
 
-  get-reply : (r : Trial) → GetPost S p d (fresh s p d) v b c r → record { number = numberOf (r .refusal); change = r .change } ≡ plainAnswer s p d v b c
+  get-reply : (r : Trial) → GetPost S p d (fresh s p d) v b c x r → record { number = numberOf (r .refusal); change = r .change } ≡ plainAnswer s p d v b c x
   get-reply r h =
       answered (h .found) (r .change) (numberOf (r .refusal)) (h .number ∙ settled (h .found) (h .in-range)) (h .refused) (h .change) (h .decided)
 
-  module _ (r : Edited) (e : Depths) (g : Held) (h : SetPost S p d e (fresh s p d) g v b c r) where
-    set-number : numberOf (r .refusal) ≡ plainNumber s v b c
+  module _ (r : Edited) (e : Depths) (g : Held) (h : SetPost S p d e (fresh s p d) g v b c x r) where
+    set-number : numberOf (r .refusal) ≡ plainNumber s v b c x
     set-number = h .number ∙ settled (h .found) (h .in-range)
 
-    set-reply : record { number = numberOf (r .refusal); change = r .change } ≡ plainAnswer s p d v b c
+    set-reply : record { number = numberOf (r .refusal); change = r .change } ≡ plainAnswer s p d v b c x
     set-reply = answered (h .found) (r .change) (numberOf (r .refusal)) set-number (h .refused-change) (h .change) (h .decided)
 
     -- what a SET leaves is what a fresh OPEN over the plain record's next depths leaves
-    set-after : record { settings = r .settings; depths = e; held = g } ≡ plainState s p (plainNext s d (set v b c))
+    set-after : record { settings = r .settings; depths = e; held = g } ≡ plainState s p (plainNext s d (set v b c x))
     unfolding plainNext plainState
     set-after =
-        bool-cases (eqb (plainNumber s v b c) 0)
+        bool-cases (eqb (plainNumber s v b c x) 0)
         (λ t.
         let n = set-number ∙ eqb-true _ _ t in
-        let w : e ≡ written s v b c d = h .depths n ∙ written-total s _ v b c d in
-        let q : r .settings ≡ withTotal s (freshTotal s p (written s v b c d)) =
-        set-settings S p d e (fresh s p d) g v b c r h n sound
-        ∙ ap (withTotal s) (ap (freshTotal S p) (written-total s _ v b c d) ∙ freshTotal-total s _ p (written s v b c d)) in
-        let y : g ≡ fresh s p (written s v b c d) =
-        set-sound S p d e (fresh s p d) g v b c r h n sound .held
-        ∙ rw (q, w) (fresh-total s _ p (written s v b c d)) in
+        let w : e ≡ written s v b (filled b c x) d = h .depths n ∙ written-total s _ v b (filled b c x) d in
+        let q : r .settings ≡ withTotal s (freshTotal s p (written s v b (filled b c x) d)) =
+        set-settings S p d e (fresh s p d) g v b c x r h n sound
+        ∙ ap (withTotal s) (ap (freshTotal S p) (written-total s _ v b (filled b c x) d) ∙ freshTotal-total s _ p (written s v b (filled b c x) d)) in
+        let y : g ≡ fresh s p (written s v b (filled b c x) d) =
+        set-sound S p d e (fresh s p d) g v b c x r h n sound .held
+        ∙ rw (q, w) (fresh-total s _ p (written s v b (filled b c x) d)) in
         rw (t, w, y, q))
         (λ f.
         let z : numberOf (r .refusal) ≡ 0 → ⊥ = λ q. eqb-false _ _ f (sym set-number ∙ q) in
         rw (f, h .refused-depths z, h .refused-held z, h .refused-settings z))
 
-  next-refused : (plainNumber s v b c ≡ 0 → ⊥) → plainState s p (plainNext s d (set v b c)) ≡ plainState s p d
+  next-refused : (plainNumber s v b c x ≡ 0 → ⊥) → plainState s p (plainNext s d (set v b c x)) ≡ plainState s p d
   unfolding plainNext
   next-refused ne = rw (ne-eqb _ _ ne)
 
-  next-local : plainNumber s v b c ≡ 0 → Local s v b (plainState s p d) (plainState s p (plainNext s d (set v b c)))
+  next-local : plainNumber s v b c x ≡ 0 → Local s v b (plainState s p d) (plainState s p (plainNext s d (set v b c x)))
   unfolding plainNext plainState
-  next-local e = rw (eq-eqb (plainNumber s v b c) 0 e) (local-written s p d ok v b c e)
+  next-local e =
+      let o = own-facts s v b c (length x) e in
+      rw (eq-eqb (plainNumber s v b c x) 0 e)
+      (local-written s p d ok v b (filled b c x) (record { some = o .block .width; inside = o .block .right }))
 
-  ready-next : Ready s p (plainNext s d (set v b c))
+  ready-next : Ready s p (plainNext s d (set v b c x))
   unfolding plainNext
-  ready-next = bool-cases (eqb (plainNumber s v b c) 0) (λ t. rw t (ready-written s p v b c d ok)) (λ f. rw f ok)
+  ready-next = bool-cases (eqb (plainNumber s v b c x) 0) (λ t. rw t (ready-written s p v b (filled b c x) d ok)) (λ f. rw f ok)
 
 -- ---- the list
 
@@ -151,23 +156,23 @@ go s p d ok halted e =
       kept = tt;
       usual = tt;
     }
-go s p d ok (got {st = st} {v = v} {b = b} {c = c} {es = es} r h k) e =
-    let h₁ = subst (λ (x : State). GetPost (x .settings) p (x .depths) (x .held) v b c r) e h in
-    let a = get-reply s p d ok v b c r h₁ in
-    more s p d (get v b c) _ a e e
-    (subst (λ (n : ℕ). Usual n) (sym (ap (λ (x : Reply). x .number) a)) (own-usual s v b (length c)))
+go s p d ok (got {st = st} {v = v} {b = b} {c = c} {x = x} {es = es} r h k) e =
+    let h₁ = subst (λ (q : State). GetPost (q .settings) p (q .depths) (q .held) v b c x r) e h in
+    let a = get-reply s p d ok v b c x r h₁ in
+    more s p d (get v b c x) _ a e e
+    (subst (λ (n : ℕ). Usual n) (sym (ap (λ (x : Reply). x .number) a)) (own-usual s v b c (length x)))
     (go s p d ok k e)
-go s p d ok (wrote {st = st} {v = v} {b = b} {c = c} {es = es} r d′ h′ h k) e =
-    let h₁ = subst (λ (x : State). SetPost (x .settings) p (x .depths) d′ (x .held) h′ v b c r) e h in
-    let a = set-reply s p d ok v b c r d′ h′ h₁ in
-    let n = set-after s p d ok v b c r d′ h′ h₁ in
-    let m = set-number s p d ok v b c r d′ h′ h₁ in
-    more s p d (set v b c) _ a n (
-      λ ne. n ∙ next-refused s p d ok v b c (λ z. ne (m ∙ z)),
-      λ z. subst (λ (x : State). Local s v b (plainState s p d) x) (sym n) (next-local s p d ok v b c (sym m ∙ z)),
+go s p d ok (wrote {st = st} {v = v} {b = b} {c = c} {x = x} {es = es} r d′ h′ h k) e =
+    let h₁ = subst (λ (q : State). SetPost (q .settings) p (q .depths) d′ (q .held) h′ v b c x r) e h in
+    let a = set-reply s p d ok v b c x r d′ h′ h₁ in
+    let n = set-after s p d ok v b c x r d′ h′ h₁ in
+    let m = set-number s p d ok v b c x r d′ h′ h₁ in
+    more s p d (set v b c x) _ a n (
+      λ ne. n ∙ next-refused s p d ok v b c x (λ z. ne (m ∙ z)),
+      λ z. subst (λ (x : State). Local s v b (plainState s p d) x) (sym n) (next-local s p d ok v b c x (sym m ∙ z)),
     )
-    (subst (λ (i : ℕ). Usual i) (sym (ap (λ (x : Reply). x .number) a)) (own-usual s v b (length c)))
-    (go s p (plainNext s d (set v b c)) (ready-next s p d ok v b c) k n)
+    (subst (λ (i : ℕ). Usual i) (sym (ap (λ (x : Reply). x .number) a)) (own-usual s v b c (length x)))
+    (go s p (plainNext s d (set v b c x)) (ready-next s p d ok v b c x) k n)
 
 pub session-run :
     (s : Settings) (p : Pictures) (d : Depths) (h₀ h : Held) (r : Opened) → OpenPost s p d h₀ h r → numberOf (r .refusal) ≡ 0 →

@@ -5,7 +5,7 @@ use Prim.Native.Nat.{ℕ, _+_, _*_, _<_, _≤_}
 use mathlib.Core.Path.{_≡_, refl, ap, sym, _∙_}
 use mathlib.Core.Bool.{Bool, true, false}
 use mathlib.Core.List.{List}
-use lib.ListN.{length, getD}
+use lib.ListN.{getD}
 use lib.IntN.{ℤ, pos}
 use Rattle.model.specs.declared.Settings.{Settings}
 use Rattle.model.specs.declared.Block.{Block}
@@ -20,8 +20,8 @@ use Rattle.model.proofs.Lists.{getD-row, getD-listOf}
 use Rattle.model.proofs.Fresh.{DepthsSized, freshTotal-total, row-fresh-samples, row-fresh-fronts, row-fresh-limits, mark-fresh, row-fresh-combined, length-fresh-samples, length-fresh-fronts, length-fresh-limits, length-fresh-marks, length-fresh-combined, view-fresh}
 use Rattle.model.proofs.Written.{written-total, written-out}
 use Rattle.model.proofs.Locality.{Columns, sized-written, shown-stays, sample-stays, limits-stay}
-use Rattle.model.proofs.Refusals.{Size, PicturesOf, ViewOf, HeldOf, Tables, common-facts, common-yes, common-passed, own-facts}
-use Rattle.run.specs.Run.{shownIn, Local, plainNumber}
+use Rattle.model.proofs.Refusals.{Size, PicturesOf, ViewOf, HeldOf, Tables, common-facts, common-yes, common-passed}
+use Rattle.run.specs.Run.{shownIn, Local}
 
 pub changeOf-total : (s : Settings) (t : ℕ) (p : Pictures) (d : Depths) (v : ℕ) (b : Block) (c : List ℕ) → changeOf (withTotal s t) p d v b c ≡ changeOf s p d v b c
 unfolding changeOf
@@ -91,9 +91,9 @@ combined-fresh s p d y x h k =
     sym (getD-row 0 (freshCombined s p d) (s .w) y x k) ∙ ap (λ (l : List ℕ). getD l x 0) (row-fresh-combined s p d y h)
     ∙ getD-listOf 0 (freshSample s p d y) (s .w) x k
 
--- ---- an accepted SET
+-- ---- a SET of a block whose columns lie in the picture
 
-module _ (s : Settings) (p : Pictures) (d : Depths) (ok : Ready s p d) (v : ℕ) (b : Block) (c : List ℕ) (accepted : plainNumber s v b c ≡ 0) where
+module _ (s : Settings) (p : Pictures) (d : Depths) (ok : Ready s p d) (v : ℕ) (b : Block) (c : List ℕ) (columns : Columns s b) where
   abbrev after : Depths
   after = written s v b c d
 
@@ -102,9 +102,6 @@ module _ (s : Settings) (p : Pictures) (d : Depths) (ok : Ready s p d) (v : ℕ)
 
   sized-after : DepthsSized s after
   sized-after = sized-written s v b c d sized
-
-  columns : Columns s b
-  columns = let o = own-facts s v b (length c) accepted in record { some = o .block .width; inside = o .block .right }
 
   depths-out : (r : Bool) (i : ℕ) → inBlock (s .w) b i ≡ false → getD (depthsOf after r) i 0 ≡ getD (depthsOf d r) i 0
   unfolding written

@@ -9,6 +9,7 @@ use lib.ListN.{length, getD}
 use lib.Dec.{eqb}
 use Rattle.model.specs.declared.Settings.{Settings}
 use Rattle.model.specs.declared.Block.{Block}
+use Rattle.model.specs.declared.Candidate.{Candidate}
 use Rattle.model.specs.declared.Pixel.{Pixel}
 use Rattle.model.specs.declared.Trial.{Trial}
 use Rattle.model.specs.declared.Edited.{Edited}
@@ -18,15 +19,16 @@ use Rattle.model.specs.Views.{isRight}
 use Rattle.model.specs.Marks.{markBytes, markAt}
 use Rattle.model.specs.Planes.{Pictures, Depths, View, Held, State, withTotal, depthsOf, viewOf}
 use Rattle.model.specs.Fresh.{fresh, freshTotal}
+use Rattle.model.specs.Candidates.{filled}
 use Rattle.model.specs.Blocks.{inRows, inBlock, written, changeOf}
 use Rattle.model.specs.Span.{spanHas, limitMoves}
 use Rattle.model.specs.Refusals.{numberOf, ownThen}
 use Rattle.model.specs.Promises.{GetPost, SetPost}
 
--- Each call brings its own view, block and candidate.
+-- Each call brings its own view, block and candidate, and the bytes lent with the candidate.
 pub data Call : Type 0 where
-  get : ℕ → Block → List ℕ → Call
-  set : ℕ → Block → List ℕ → Call
+  get : ℕ → Block → Candidate → List ℕ → Call
+  set : ℕ → Block → Candidate → List ℕ → Call
 
 -- What a call answered: the number of its refusal, 0 for none, and the change.
 pub record Reply : Type 0 where
@@ -43,15 +45,15 @@ pub record Event : Type 0 where
 pub data Run (p : Pictures) : State → List Call → List Event → State → Type 0 where
   halted : {st : State} → Run p st [] [] st
   got :
-      {st last : State} {v : ℕ} {b : Block} {c : List ℕ} {cs : List Call} {es : List Event} (r : Trial) →
-      GetPost (st .settings) p (st .depths) (st .held) v b c r →
+      {st last : State} {v : ℕ} {b : Block} {c : Candidate} {x : List ℕ} {cs : List Call} {es : List Event} (r : Trial) →
+      GetPost (st .settings) p (st .depths) (st .held) v b c x r →
       Run p st cs es last →
-      Run p st (get v b c ∷ cs) (record { reply = record { number = numberOf (r .refusal); change = r .change }; after = st } ∷ es) last
+      Run p st (get v b c x ∷ cs) (record { reply = record { number = numberOf (r .refusal); change = r .change }; after = st } ∷ es) last
   wrote :
-      {st last : State} {v : ℕ} {b : Block} {c : List ℕ} {cs : List Call} {es : List Event} (r : Edited) (d : Depths) (h : Held) →
-      SetPost (st .settings) p (st .depths) d (st .held) h v b c r →
+      {st last : State} {v : ℕ} {b : Block} {c : Candidate} {x : List ℕ} {cs : List Call} {es : List Event} (r : Edited) (d : Depths) (h : Held) →
+      SetPost (st .settings) p (st .depths) d (st .held) h v b c x r →
       Run p (record { settings = r .settings; depths = d; held = h }) cs es last →
-      Run p st (set v b c ∷ cs)
+      Run p st (set v b c x ∷ cs)
       (record {
         reply = record { number = numberOf (r .refusal); change = r .change };
         after = record { settings = r .settings; depths = d; held = h };
@@ -61,27 +63,27 @@ pub data Run (p : Pictures) : State → List Call → List Event → State → T
 
 -- ---- The plain record: two depth planes, fed each call's view, block and candidate alone. s and p are what OPEN was passed.
 
--- In a run 1 to 4 and 8 never apply to GET or SET, so that 6, 5 and 7 are left.
-abbrev pub plainNumber : Settings → ℕ → Block → List ℕ → ℕ
-plainNumber s v b c = ownThen s v b (length c) 0
+-- In a run 1 to 4 and 8 never apply to GET or SET, so that 6, 5 and the candidate's own number are left.
+abbrev pub plainNumber : Settings → ℕ → Block → Candidate → List ℕ → ℕ
+plainNumber s v b c x = ownThen s v b c (length x) 0
 
--- GET: the record stays. SET: the candidate stays written, unless a number applies.
+-- GET: the record stays. SET: the block that the candidate stands for stays written, unless a number applies.
 unfoldable pub plainNext : Settings → Depths → Call → Depths
-plainNext s d (get v b c) = d
-plainNext s d (set v b c) = cond (eqb (plainNumber s v b c) 0) (written s v b c d) d
+plainNext s d (get v b c x) = d
+plainNext s d (set v b c x) = cond (eqb (plainNumber s v b c x) 0) (written s v b (filled b c x) d) d
 
--- The first number that applies, or the fresh total with the candidate written less that of the record as it stands.
-unfoldable pub plainAnswer : Settings → Pictures → Depths → ℕ → Block → List ℕ → Reply
-plainAnswer s p d v b c =
+-- The first number that applies, or the fresh total with that block written less that of the record as it stands.
+unfoldable pub plainAnswer : Settings → Pictures → Depths → ℕ → Block → Candidate → List ℕ → Reply
+plainAnswer s p d v b c x =
     record {
-      number = plainNumber s v b c;
-      change = cond (eqb (plainNumber s v b c) 0) (changeOf s p d v b c) (pos 0);
+      number = plainNumber s v b c x;
+      change = cond (eqb (plainNumber s v b c x) 0) (changeOf s p d v b (filled b c x)) (pos 0);
     }
 
 -- SET answers the same as GET.
 unfoldable pub plainReply : Settings → Pictures → Depths → Call → Reply
-plainReply s p d (get v b c) = plainAnswer s p d v b c
-plainReply s p d (set v b c) = plainAnswer s p d v b c
+plainReply s p d (get v b c x) = plainAnswer s p d v b c x
+plainReply s p d (set v b c x) = plainAnswer s p d v b c x
 
 -- The record's drawing, as a session: the settings are those of OPEN with the fresh total.
 unfoldable pub plainState : Settings → Pictures → Depths → State
@@ -118,8 +120,8 @@ pub record Local (s : Settings) (v : ℕ) (b : Block) (before after : State) : T
 
 -- No GET and no refused call changes anything.
 abbrev pub Kept : Settings → State → Call → Event → Type 0
-Kept s before (get v b c) e = e .after ≡ before
-Kept s before (set v b c) e = ((e .reply .number ≡ 0 → ⊥) → e .after ≡ before) × (e .reply .number ≡ 0 → Local s v b before (e .after))
+Kept s before (get v b c x) e = e .after ≡ before
+Kept s before (set v b c x) e = ((e .reply .number ≡ 0 → ⊥) → e .after ≡ before) × (e .reply .number ≡ 0 → Local s v b before (e .after))
 
 unfoldable pub AllKept : Settings → State → List Call → List Event → Type 0
 AllKept s before [] [] = Unit
@@ -129,7 +131,7 @@ AllKept s before (k ∷ ks) (e ∷ es) = Kept s before k e × AllKept s (e .afte
 
 -- 1 to 4 and 8 never occur.
 abbrev pub Usual : ℕ → Type 0
-Usual n = (n ≡ 0) ⊎ ((n ≡ 5) ⊎ ((n ≡ 6) ⊎ (n ≡ 7)))
+Usual n = (n ≡ 0) ⊎ ((n ≡ 5) ⊎ ((n ≡ 6) ⊎ ((n ≡ 7) ⊎ ((n ≡ 14) ⊎ (n ≡ 15)))))
 
 unfoldable pub AllUsual : List Event → Type 0
 AllUsual [] = Unit

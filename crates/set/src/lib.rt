@@ -1,6 +1,7 @@
 // SET writes a candidate into a block of a view, and brings the held planes and the total up to date.
 use decide::Decision;
 use model::Block;
+use model::Candidate;
 use model::Edited;
 use model::Settings;
 use validate::Lengths;
@@ -10,7 +11,8 @@ ghost use mathlib.Core.Bool.{true};
 ghost use Prim.Native.Nat.{_≤_};
 ghost use lib.ListN.{length};
 ghost use Rattle.model.specs.Planes as planes;
-ghost use Rattle.model.specs.Refusals.{tableOk, earlyNumber};
+ghost use Rattle.model.specs.Candidates.{filled};
+ghost use Rattle.model.specs.Refusals.{tableOk, candidateThen, earlyNumber};
 ghost use Rattle.model.specs.Promises.{SetPost};
 ghost use Rattle.trial.specs.Trial.{around, own, Sized, Fits};
 ghost use Rattle.commit.specs.Commit as commit;
@@ -29,7 +31,8 @@ fn settle(
     h: u32,
     block: Block,
     texture: &[u16],
-    candidate: &[u8],
+    candidate: Candidate,
+    bytes: &[u8],
     depths: &mut [u8],
     samples: &mut [u16],
     fronts: &mut [u8],
@@ -44,8 +47,8 @@ fn settle(
     requires { ⌜ (tableOk (now table) ≡ true) × (share ≤ 64) ⌝ }
     requires { ⌜ Sized w h (around right share tolerance (now samples2) (now fronts2) (now marks2) (now combined) (now reference)) (own (now table) (now texture) (now depths) (now limits)) ⌝ }
     requires { ⌜ commit.Sized w h (now texture) (now depths) (planes.view (now samples) (now fronts) (now limits) (now marks)) ⌝ }
-    requires { ⌜ Fits w h block (now candidate) ⌝ }
-    ensures { λ r. ⌜ OwnSettled right (now (table .entry)) share tolerance total w h block (now (texture .entry)) (now (candidate .entry))
+    requires { ⌜ (Fits w h block (filled block candidate (now bytes))) × (candidateThen block candidate (length (now bytes)) 0 ≡ 0) ⌝ }
+    ensures { λ r. ⌜ OwnSettled right (now (table .entry)) share tolerance total w h block (now (texture .entry)) (filled block candidate (now (bytes .entry)))
         (now (samples2 .entry)) (now (fronts2 .entry)) (now (marks2 .entry)) (now (reference .entry))
         (now (depths .entry)) (now (depths .exit))
         (planes.view (now (samples .entry)) (now (fronts .entry)) (now (limits .entry)) (now (marks .entry)))
@@ -58,7 +61,7 @@ fn settle(
     let row = block.row as usize;
     let width = block.width as usize;
     let height = block.height as usize;
-    let sums = trial::trial_block(
+    let sums = trial::trial_candidate(
         right,
         table,
         share,
@@ -73,6 +76,7 @@ fn settle(
         depths,
         limits,
         candidate,
+        bytes,
         samples2,
         fronts2,
         marks2,
@@ -98,6 +102,7 @@ fn settle(
         height,
         texture,
         candidate,
+        bytes,
         depths,
         samples,
         fronts,
@@ -136,20 +141,21 @@ fn settle_view<'a>(
     combined: &mut [u16],
     view: u32,
     block: Block,
-    candidate: &[u8],
+    candidate: Candidate,
+    bytes: &[u8],
 ) -> Decision
     requires { ⌜ earlyNumber (settingsOf w h (now leftTable) (now rightTable) share tolerance total)
         (planes.pictures (now left) (now right) (now reference))
         (planes.depths (now leftDepths) (now rightDepths))
         (heldOf (now leftSamples) (now leftFronts) (now leftLimits) (now leftMarks) (now rightSamples) (now rightFronts) (now rightLimits) (now rightMarks) (now combined))
-        view block (length (now candidate)) ≡ 0 ⌝ }
+        view block candidate (length (now bytes)) ≡ 0 ⌝ }
     ensures { λ r. ⌜ Settled (settingsOf w h (now (leftTable .entry)) (now (rightTable .entry)) share tolerance total)
         (planes.pictures (now (left .entry)) (now (right .entry)) (now (reference .entry)))
         (planes.depths (now (leftDepths .entry)) (now (rightDepths .entry)))
         (planes.depths (now (leftDepths .exit)) (now (rightDepths .exit)))
         (heldOf (now (leftSamples .entry)) (now (leftFronts .entry)) (now (leftLimits .entry)) (now (leftMarks .entry)) (now (rightSamples .entry)) (now (rightFronts .entry)) (now (rightLimits .entry)) (now (rightMarks .entry)) (now (combined .entry)))
         (heldOf (now (leftSamples .exit)) (now (leftFronts .exit)) (now (leftLimits .exit)) (now (leftMarks .exit)) (now (rightSamples .exit)) (now (rightFronts .exit)) (now (rightLimits .exit)) (now (rightMarks .exit)) (now (combined .exit)))
-        view block (now (candidate .entry)) r ⌝ }
+        view block (filled block candidate (now (bytes .entry))) r ⌝ }
 {
     if view == 1 {
         return settle(
@@ -163,6 +169,7 @@ fn settle_view<'a>(
             block,
             right,
             candidate,
+            bytes,
             rightDepths,
             rightSamples,
             rightFronts,
@@ -186,6 +193,7 @@ fn settle_view<'a>(
         block,
         left,
         candidate,
+        bytes,
         leftDepths,
         leftSamples,
         leftFronts,
@@ -218,7 +226,8 @@ pub fn set(
     combined: &mut [u16],
     view: u32,
     block: Block,
-    candidate: &[u8],
+    candidate: Candidate,
+    bytes: &[u8],
 ) -> Edited
     ensures { λ r. ⌜ SetPost settings
         (planes.pictures (now (left .entry)) (now (right .entry)) (now (reference .entry)))
@@ -226,7 +235,7 @@ pub fn set(
         (planes.depths (now (leftDepths .exit)) (now (rightDepths .exit)))
         (planes.held (planes.view (now (leftSamples .entry)) (now (leftFronts .entry)) (now (leftLimits .entry)) (now (leftMarks .entry))) (planes.view (now (rightSamples .entry)) (now (rightFronts .entry)) (now (rightLimits .entry)) (now (rightMarks .entry))) (now (combined .entry)))
         (planes.held (planes.view (now (leftSamples .exit)) (now (leftFronts .exit)) (now (leftLimits .exit)) (now (leftMarks .exit))) (planes.view (now (rightSamples .exit)) (now (rightFronts .exit)) (now (rightLimits .exit)) (now (rightMarks .exit))) (now (combined .exit)))
-        view block (now (candidate .entry)) r ⌝ }
+        view block candidate (now (bytes .entry)) r ⌝ }
 {
     let lengths = Lengths {
         left: ViewLengths {
@@ -248,7 +257,7 @@ pub fn set(
         reference: reference.len(),
         combined: combined.len(),
     };
-    let first = validate::early(
+    let before = validate::early(
         settings.w,
         settings.h,
         &settings.left,
@@ -257,8 +266,8 @@ pub fn set(
         lengths,
         view,
         block,
-        candidate.len(),
     );
+    let first = validate::with_candidate(before, block, candidate, bytes.len());
     if model::number(first) != 0 {
         return Edited {
             refusal: first,
@@ -291,6 +300,7 @@ pub fn set(
         view,
         block,
         candidate,
+        bytes,
     );
     let mut next = settings;
     next.total = decision.total;

@@ -30,7 +30,7 @@ use Rattle.model.proofs.Written.{rows-under, rows-beyond, candidate-fits, writt
 use Rattle.model.proofs.Totals.{errorAt, total-rows}
 use Rattle.model.proofs.Readings.{sampleIn-row, view-read}
 use Rattle.model.proofs.Locality.{sized-written, other-row, row-out}
-use Rattle.model.proofs.Refusals.{Common, Own}
+use Rattle.model.proofs.Refusals.{Common, Inside}
 use Rattle.planes.specs.Parts.{splice}
 use Rattle.marks.specs.Puts.{heldPixel}
 use Rattle.marks.proofs.Held.{entry-read, held-fresh}
@@ -143,7 +143,7 @@ candidate-row w b c plane i fits inside e k =
     length-row c (b .width) i (rw z at (candidate-fits b c (b .row + i) e (omega arith) (omega arith))) in
     rw n (rw z at (written-row-in w b c plane (b .row + i) fits inside e (omega arith) (omega arith)))
 
-module _ (s : Settings) (p : Pictures) (d : Depths) (h : Held) (v : ℕ) (b : Block) (c : List ℕ) (sized : DepthsSized s d) (mine : Own s v b (length c)) (same : readHeld h ≡ fresh s p d) where
+module _ (s : Settings) (p : Pictures) (d : Depths) (h : Held) (v : ℕ) (b : Block) (c : List ℕ) (sized : DepthsSized s d) (inside : Inside s b) (entries : length c ≡ b .width * b .height) (same : readHeld h ≡ fresh s p d) where
   abbrev r : Bool
   r = isRight v
 
@@ -151,7 +151,7 @@ module _ (s : Settings) (p : Pictures) (d : Depths) (h : Held) (v : ℕ) (b : Bl
   after = written s v b c d
 
   row-in : (i : ℕ) → i < b .height → b .row + i < s .h
-  row-in i k = omega (arith, mine .block .bottom)
+  row-in i k = omega (arith, inside .bottom)
 
   -- a row of the block with the candidate, as the view reads it
   tried-row : (i : ℕ) → i < b .height → seen r (rowOf (depthsOf after r) (s .w) (b .row + i)) ≡ splice (seen r (rowOf (depthsOf d r) (s .w) (b .row + i))) (firstColumn r (s .w) (b .column) (b .width)) (seen r (rowOf c (b .width) i))
@@ -160,10 +160,10 @@ module _ (s : Settings) (p : Pictures) (d : Depths) (h : Held) (v : ℕ) (b : Bl
       let z : b .row + i - b .row ≡ i = omega arith in
       let fits : (b .row + i) * s .w + s .w ≤ length (depthsOf d r) = omega (arith, depths-length s sized r, rows-apart (s .w) (b .row + i) (s .h) (row-in i k)) in
       let n : length (rowOf c (b .width) i) ≡ b .width =
-      length-row c (b .width) i (rw z at (candidate-fits b c (b .row + i) (mine .entries) (omega arith) (omega arith))) in
+      length-row c (b .width) i (rw z at (candidate-fits b c (b .row + i) entries (omega arith) (omega arith))) in
       ap (λ (l : List ℕ). seen r (rowOf l (s .w) y)) (written-own s v b c d)
-      ∙ ap (seen r) (candidate-row (s .w) b c (depthsOf d r) i fits (mine .block .right) (mine .entries) k)
-      ∙ seen-candidate r (rowOf (depthsOf d r) (s .w) y) (rowOf c (b .width) i) (s .w) (b .column) (b .width) (length-row (depthsOf d r) (s .w) y fits) n (mine .block .right)
+      ∙ ap (seen r) (candidate-row (s .w) b c (depthsOf d r) i fits (inside .right) entries k)
+      ∙ seen-candidate r (rowOf (depthsOf d r) (s .w) y) (rowOf c (b .width) i) (s .w) (b .column) (b .width) (length-row (depthsOf d r) (s .w) y fits) n (inside .right)
 
   -- a row outside the block keeps its share of the total
   row-stays : (y : ℕ) → y < s .h → inRows b y ≡ false → sumTo (errorAt s p after y) (s .w) ≡ sumTo (errorAt s p d y) (s .w)
@@ -183,8 +183,8 @@ module _ (s : Settings) (p : Pictures) (d : Depths) (h : Held) (v : ℕ) (b : Bl
       let u = ownOf s p d h r in
       rw (total-rows s p after, total-rows s p d)
       (sum-part-change (λ y. sumTo (errorAt s p d y) (s .w)) (λ y. sumTo (errorAt s p after y) (s .w)) (totalBefore (s .w) o u b c) (totalAfter (s .w) o u b c) (b .row) (b .height) (s .h) old new
-      (mine .block .bottom)
-      (λ y k. row-stays y (omega (arith, mine .block .bottom)) (rows-under b y k))
+      (inside .bottom)
+      (λ y k. row-stays y (omega (arith, inside .bottom)) (rows-under b y k))
       (λ y k l. row-stays y l (rows-beyond b y k))
       (λ i k. sym (total-row s p d h sized same r (b .row + i) (row-in i k) d sized refl))
       (λ i k.
@@ -193,7 +193,7 @@ module _ (s : Settings) (p : Pictures) (d : Depths) (h : Held) (v : ℕ) (b : Bl
       (t .change (λ i k. row-true s p d h sized same r (b .row + i) (row-in i k) _)))
 
 -- for the view that the entry is asked for
-pub trial-sound : (s : Settings) (p : Pictures) (d : Depths) (h : Held) (v : ℕ) (b : Block) (c : List ℕ) (right : Bool) {old new : ℕ} → Common s p d h → Own s v b (length c) → readHeld h ≡ fresh s p d → isRight v ≡ right → BlockTrial (s .w) (aroundOf s p h right) (ownOf s p d h right) b c (b .height) old new → freshTotal s p (written s v b c d) + old ≡ freshTotal s p d + new
-trial-sound s p d h v b c right {old} {new} common mine same e t =
-    trial-here s p d h v b c (common .depths) mine same
+pub trial-sound : (s : Settings) (p : Pictures) (d : Depths) (h : Held) (v : ℕ) (b : Block) (c : List ℕ) (right : Bool) {old new : ℕ} → Common s p d h → Inside s b → length c ≡ b .width * b .height → readHeld h ≡ fresh s p d → isRight v ≡ right → BlockTrial (s .w) (aroundOf s p h right) (ownOf s p d h right) b c (b .height) old new → freshTotal s p (written s v b c d) + old ≡ freshTotal s p d + new
+trial-sound s p d h v b c right {old} {new} common inside entries same e t =
+    trial-here s p d h v b c (common .depths) inside entries same
     (subst (λ (r : Bool). BlockTrial (s .w) (aroundOf s p h r) (ownOf s p d h r) b c (b .height) old new) (sym e) t)

@@ -1,21 +1,24 @@
 // What a candidate would change: each of the block's rows drawn over the span alone, strip by strip from the right, and measured.
+use model::Candidate;
 use model::Pixel;
 use pixel::Pair;
 ghost use Prim.Native.Nat.{ℕ, _+_, _-_, _*_, _/_, _≤_, _<_, min};
 ghost use mathlib.Core.Path.{_≡_};
-ghost use mathlib.Core.Bool.{true};
+ghost use mathlib.Core.Bool.{true, false};
 ghost use lib.ListN.{length, getD};
 ghost use Rattle.model.specs.Lists.{rowOf};
 ghost use Rattle.model.specs.Row.{place, greatest, sampleIn, pixel};
 ghost use Rattle.model.specs.Views.{seen};
 ghost use Rattle.model.specs.Span.{firstColumn};
-ghost use Rattle.model.specs.Refusals.{tableOk};
+ghost use Rattle.model.specs.Candidates.{filled};
+ghost use Rattle.model.specs.Refusals.{tableOk, candidateThen};
 ghost use Rattle.model.specs.Combined.{worst, squareError};
 ghost use Rattle.planes.specs.Parts.{splice, blockOf};
 ghost use Rattle.marks.specs.Puts.{heldPixel};
 ghost use Rattle.sums.specs.Squares.{Squares};
 ghost use Rattle.sums.specs.Sides.{paired};
 ghost use Rattle.pixel.specs.Pairs.{edgeRight};
+ghost use Rattle.fill.specs.Rows.{isLent};
 ghost use Rattle.row.specs.Drawing.{Ready, pixelBelow, lineWith, Ahead};
 ghost use Rattle.trial.specs.Trial.{
   Beside,
@@ -523,8 +526,9 @@ fn trial_at(
     )
 }
 
-// The two sums of a block's trial in one view: texture, depths and limits are the view's own, and samples, fronts and marks the other
-// view's. The slices are lent on as new ones: the compiler then passes pointers and lengths, and the caller stores no slice in memory.
+// The two sums of a block's trial in one view, with the candidate's depths in row order: texture, depths and limits are the view's own, and samples,
+// fronts and marks the other view's. The slices are lent on as new ones: the compiler then passes pointers and lengths, and the caller stores no
+// slice in memory.
 pub fn trial_block(
     right: bool,
     table: &[u16; 256],
@@ -584,4 +588,238 @@ pub fn trial_block(
         i += 1;
     }
     Sums { old, new }
+}
+
+// The lesser of two numbers of rows.
+fn fewer(a: usize, b: usize) -> usize
+    requires { ⌜ (0 < a) × (0 < b) ⌝ }
+    ensures { λ r. ⌜ (0 < r) × ((r ≤ a) × (r ≤ b)) ⌝ }
+{
+    if a < b { a } else { b }
+}
+
+// The same for a candidate whose rows are made: as many of them as the room holds, and these are then tried together, as a block of their own.
+fn trial_by_rooms(
+    right: bool,
+    table: &[u16; 256],
+    share: u8,
+    tolerance: u8,
+    w: usize,
+    h: usize,
+    column: usize,
+    row: usize,
+    width: usize,
+    height: usize,
+    texture: &[u16],
+    depths: &[u8],
+    limits: &[i16],
+    candidate: Candidate,
+    bytes: &[u8],
+    room: &mut [u8],
+    samples: &[u16],
+    fronts: &[u8],
+    marks: &[u8],
+    combined: &[u16],
+    reference: &[u16],
+) -> Sums
+    requires { ⌜ (tableOk (now table) ≡ true) × (share ≤ 64) ⌝ }
+    requires { ⌜ Sized w h (around right share tolerance (now samples) (now fronts) (now marks) (now combined) (now reference)) (own (now table) (now texture) (now depths) (now limits)) ⌝ }
+    requires { ⌜ (Fits w h (blockOf column row width height) (filled (blockOf column row width height) candidate (now bytes))) × (candidateThen (blockOf column row width height) candidate (length (now bytes)) 0 ≡ 0) ⌝ }
+    requires { ⌜ (isLent candidate ≡ false) × ((width ≤ length (now room)) × (length (now room) ≤ 4096)) ⌝ }
+    ensures { λ r. ⌜ BlockTrial w (around right share tolerance (now (samples .entry)) (now (fronts .entry)) (now (marks .entry)) (now (combined .entry)) (now (reference .entry)))
+        (own (now (table .entry)) (now (texture .entry)) (now (depths .entry)) (now (limits .entry))) (blockOf column row width height) (filled (blockOf column row width height) candidate (now (bytes .entry))) height (r .old) (r .new) ⌝ }
+{
+    let most = room.len() / width;
+    fill::start(candidate, room);
+    let mut old = 0u64;
+    let mut new = 0u64;
+    let mut done = 0;
+    while done < height {
+        let n = fewer(most, height - done);
+        let end = n * width;
+        fill::fill_rows(candidate, bytes, width, done, n, &mut room[..end]);
+        let part = trial_block(
+            right,
+            table,
+            share,
+            tolerance,
+            w,
+            h,
+            column,
+            row + done,
+            width,
+            n,
+            texture,
+            depths,
+            limits,
+            &room[..end],
+            samples,
+            fronts,
+            marks,
+            combined,
+            reference,
+        );
+        old += part.old;
+        new += part.new;
+        done += n;
+    }
+    Sums { old, new }
+}
+
+// The same in a room of its own.
+pub fn trial_made(
+    right: bool,
+    table: &[u16; 256],
+    share: u8,
+    tolerance: u8,
+    w: usize,
+    h: usize,
+    column: usize,
+    row: usize,
+    width: usize,
+    height: usize,
+    texture: &[u16],
+    depths: &[u8],
+    limits: &[i16],
+    candidate: Candidate,
+    bytes: &[u8],
+    samples: &[u16],
+    fronts: &[u8],
+    marks: &[u8],
+    combined: &[u16],
+    reference: &[u16],
+) -> Sums
+    requires { ⌜ (tableOk (now table) ≡ true) × (share ≤ 64) ⌝ }
+    requires { ⌜ Sized w h (around right share tolerance (now samples) (now fronts) (now marks) (now combined) (now reference)) (own (now table) (now texture) (now depths) (now limits)) ⌝ }
+    requires { ⌜ (Fits w h (blockOf column row width height) (filled (blockOf column row width height) candidate (now bytes))) × (candidateThen (blockOf column row width height) candidate (length (now bytes)) 0 ≡ 0) ⌝ }
+    requires { ⌜ isLent candidate ≡ false ⌝ }
+    ensures { λ r. ⌜ BlockTrial w (around right share tolerance (now (samples .entry)) (now (fronts .entry)) (now (marks .entry)) (now (combined .entry)) (now (reference .entry)))
+        (own (now (table .entry)) (now (texture .entry)) (now (depths .entry)) (now (limits .entry))) (blockOf column row width height) (filled (blockOf column row width height) candidate (now (bytes .entry))) height (r .old) (r .new) ⌝ }
+{
+    if width <= 256 {
+        let mut room = fill::short_room();
+        return trial_by_rooms(
+            right,
+            table,
+            share,
+            tolerance,
+            w,
+            h,
+            column,
+            row,
+            width,
+            height,
+            texture,
+            depths,
+            limits,
+            candidate,
+            bytes,
+            &mut room[..],
+            samples,
+            fronts,
+            marks,
+            combined,
+            reference,
+        );
+    }
+    let mut room = fill::long_room();
+    trial_by_rooms(
+        right,
+        table,
+        share,
+        tolerance,
+        w,
+        h,
+        column,
+        row,
+        width,
+        height,
+        texture,
+        depths,
+        limits,
+        candidate,
+        bytes,
+        &mut room[..],
+        samples,
+        fronts,
+        marks,
+        combined,
+        reference,
+    )
+}
+
+// The two sums of a block's trial with a candidate of any kind.
+pub fn trial_candidate(
+    right: bool,
+    table: &[u16; 256],
+    share: u8,
+    tolerance: u8,
+    w: usize,
+    h: usize,
+    column: usize,
+    row: usize,
+    width: usize,
+    height: usize,
+    texture: &[u16],
+    depths: &[u8],
+    limits: &[i16],
+    candidate: Candidate,
+    bytes: &[u8],
+    samples: &[u16],
+    fronts: &[u8],
+    marks: &[u8],
+    combined: &[u16],
+    reference: &[u16],
+) -> Sums
+    requires { ⌜ (tableOk (now table) ≡ true) × (share ≤ 64) ⌝ }
+    requires { ⌜ Sized w h (around right share tolerance (now samples) (now fronts) (now marks) (now combined) (now reference)) (own (now table) (now texture) (now depths) (now limits)) ⌝ }
+    requires { ⌜ (Fits w h (blockOf column row width height) (filled (blockOf column row width height) candidate (now bytes))) × (candidateThen (blockOf column row width height) candidate (length (now bytes)) 0 ≡ 0) ⌝ }
+    ensures { λ r. ⌜ BlockTrial w (around right share tolerance (now (samples .entry)) (now (fronts .entry)) (now (marks .entry)) (now (combined .entry)) (now (reference .entry)))
+        (own (now (table .entry)) (now (texture .entry)) (now (depths .entry)) (now (limits .entry))) (blockOf column row width height) (filled (blockOf column row width height) candidate (now (bytes .entry))) height (r .old) (r .new) ⌝ }
+{
+    if fill::lent(candidate) {
+        return trial_block(
+            right,
+            table,
+            share,
+            tolerance,
+            w,
+            h,
+            column,
+            row,
+            width,
+            height,
+            texture,
+            depths,
+            limits,
+            bytes,
+            samples,
+            fronts,
+            marks,
+            combined,
+            reference,
+        );
+    }
+    trial_made(
+        right,
+        table,
+        share,
+        tolerance,
+        w,
+        h,
+        column,
+        row,
+        width,
+        height,
+        texture,
+        depths,
+        limits,
+        candidate,
+        bytes,
+        samples,
+        fronts,
+        marks,
+        combined,
+        reference,
+    )
 }

@@ -1,3 +1,4 @@
 -- Why the tests are those of the model, and what they show.
 pub mod Facts
+pub mod Lines
 pub mod Numbers

@@ -1,25 +1,26 @@
 -- The tests over numbers are the model's, at the lengths of the planes.
 --     common-number    1, 2, 3, 4, then the rest
---     own-number       6, 5, 7
---     early-number     1, 2, 3, 4, 6, 5, 7
+--     early-number     1, 2, 3, 4, 6, 5, then the candidate's own number
 --     numbers-before   1, 2, 3, 4 decide before the rest
-use Prim.Native.Nat.{ℕ, suc, _*_}
-use mathlib.Core.Path.{_≡_, refl, ap, _∙_}
-use mathlib.Core.Bool.{Bool, true, false, _&&_}
+use Prim.Native.Nat.{ℕ, _*_}
+use mathlib.Core.Path.{_≡_, sym, _∙_}
+use mathlib.Core.Bool.{Bool, true, false, cond, _&&_}
 use mathlib.Core.List.{List}
 use native.Mathlib.Omega.{arith}
 use lib.ListN.{length}
-use lib.Dec.{leb}
+use lib.Dec.{leb, eqb}
+use borrow.Author.Tests.{eqb-true, eqb-false}
 use Rattle.model.specs.declared.Settings.{Settings}
 use Rattle.model.specs.declared.Block.{Block}
+use Rattle.model.specs.declared.Candidate.{Candidate}
 use Rattle.model.specs.Marks.{markBytes}
 use Rattle.model.specs.Planes.{Pictures, Depths, Held, viewOf, textureOf, depthsOf}
-use Rattle.model.specs.Refusals.{unless, sideOk, sizeOk, picturesSized, depthsSized, heldSized, planesSized, tableOk, tablesOk, blockOk, commonThen, ownThen, earlyNumber}
-use Rattle.model.proofs.Choice.{and-true, and-left, and-right}
-use Rattle.model.proofs.Refusals.{pictures-yes, pictures-facts, depths-yes, depths-facts, held-yes, held-facts}
+use Rattle.model.specs.Refusals.{sideOk, sizeOk, picturesSized, depthsSized, heldSized, planesSized, tableOk, tablesOk, blockOk, viewOk, candidateThen, commonThen, ownThen, earlyNumber}
+use Rattle.model.proofs.Choice.{bool-cases, and-true, and-left, and-right}
+use Rattle.model.proofs.Refusals.{Before, none-before, one-before, pictures-yes, pictures-facts, depths-yes, depths-facts, held-yes, held-facts}
 use Rattle.validate.specs.declared.ViewLengths.{ViewLengths}
 use Rattle.validate.specs.declared.Lengths.{Lengths}
-use Rattle.validate.specs.Numbers.{planesFit, commonNumber, sides}
+use Rattle.validate.specs.Numbers.{planesFit, commonNumber, sides, ownNumber}
 use Rattle.validate.proofs.Facts.{same-test, planes-yes, planes-facts}
 
 -- the lengths of the planes
@@ -43,11 +44,6 @@ lengthsOf p d h =
       combined = length (h .combined);
     }
 
--- 6, 5, 7 look at nothing but the sides
-pub own-number : (s : Settings) (v : ℕ) (b : Block) (n rest : ℕ) → ownThen (sides (s .w) (s .h)) v b n rest ≡ ownThen s v b n rest
-unfolding ownThen blockOk
-own-number s v b n rest = refl
-
 module _ (s : Settings) (p : Pictures) (d : Depths) (h : Held) where
   planes-same : planesFit (s .w) (s .h) (lengthsOf p d h) ≡ planesSized s p d h
   unfolding planesSized
@@ -70,24 +66,27 @@ module _ (s : Settings) (p : Pictures) (d : Depths) (h : Held) where
   unfolding commonNumber commonThen sizeOk tablesOk
   common-number rest = rw planes-same
 
-  -- 1, 2, 3, 4, 6, 5, 7
-  pub early-number : (v : ℕ) (b : Block) (n : ℕ) → commonNumber (s .w) (s .h) (s .left) (s .right) (s .share) (lengthsOf p d h) (ownThen (sides (s .w) (s .h)) v b n 0) ≡ earlyNumber s p d h v b n
-  early-number v b n = common-number (ownThen (sides (s .w) (s .h)) v b n 0) ∙ ap (commonThen s p d h) (own-number s v b n 0)
-
--- A list of tests before the rest: where none of them turns the call down the rest decides, and elsewhere it does not count.
-pub record Before (tests : ℕ → ℕ) : Type 0 where
-  pub rest : (k : ℕ) → tests 0 ≡ 0 → tests k ≡ k
-  pub stays : (k : ℕ) → (tests 0 ≡ 0 → ⊥) → tests k ≡ tests 0
-
-none-before : Before (λ k. k)
-none-before = record { rest = λ k e. refl; stays = λ k ne. absurd (ne refl) }
-
-one-before : (t : Bool) (n : ℕ) (tests : ℕ → ℕ) → Before tests → Before (λ k. unless t (suc n) (tests k))
-one-before true n tests f = f
-one-before false n tests f = record { rest = λ k e. absurd (omega arith); stays = λ k ne. refl }
-
+-- 1, 2, 3, 4 before the rest, and then 6 and 5
 pub numbers-before : (w h : ℕ) (left right : List ℕ) (share : ℕ) (l : Lengths) → Before (commonNumber w h left right share l)
 unfolding commonNumber
 numbers-before w h left right share l =
     one-before (sideOk w && sideOk h) 0 _
     (one-before (planesFit w h l) 1 _ (one-before (tableOk left && tableOk right) 2 _ (one-before (leb share 64) 3 _ none-before)))
+
+early-before : (w h : ℕ) (left right : List ℕ) (share : ℕ) (l : Lengths) (v : ℕ) (b : Block) → Before (λ rest. commonNumber w h left right share l (ownNumber w h v b rest))
+unfolding commonNumber ownNumber
+early-before w h left right share l v b =
+    one-before (sideOk w && sideOk h) 0 _
+    (one-before (planesFit w h l) 1 _ (one-before (tableOk left && tableOk right) 2 _ (one-before (leb share 64) 3 _
+    (one-before (viewOk v) 5 _ (one-before (blockOk (sides w h) b) 4 _ none-before)))))
+
+-- the number found without the candidate, and then with it
+pub early-number : (s : Settings) (p : Pictures) (d : Depths) (h : Held) (v : ℕ) (b : Block) (c : Candidate) (n k r : ℕ) → k ≡ commonNumber (s .w) (s .h) (s .left) (s .right) (s .share) (lengthsOf p d h) (ownNumber (s .w) (s .h) v b 0) → r ≡ cond (eqb k 0) (candidateThen b c n 0) k → r ≡ earlyNumber s p d h v b c n
+unfolding ownThen ownNumber blockOk
+early-number s p d h v b c n k r e q =
+    let f = early-before (s .w) (s .h) (s .left) (s .right) (s .share) (lengthsOf p d h) v b in
+    q
+    ∙ bool-cases (eqb k 0)
+    (λ t. let z = eqb-true k 0 t in rw t (sym (f .rest (candidateThen b c n 0) (sym e ∙ z))))
+    (λ t. let ne = eqb-false k 0 t in rw t (e ∙ sym (f .stays (candidateThen b c n 0) (λ z. ne (e ∙ z)))))
+    ∙ common-number s p d h (ownThen s v b c n 0)

@@ -4,8 +4,9 @@ use mathlib.Core.Bool.{Bool, _&&_}
 use mathlib.Core.List.{List, []}
 use lib.Dec.{leb, eqb}
 use Rattle.model.specs.declared.Settings.{Settings}
+use Rattle.model.specs.declared.Block.{Block}
 use Rattle.model.specs.Marks.{markBytes}
-use Rattle.model.specs.Refusals.{unless, sideOk, tableOk}
+use Rattle.model.specs.Refusals.{unless, sideOk, tableOk, blockOk, viewOk}
 use Rattle.validate.specs.declared.ViewLengths.{ViewLengths}
 use Rattle.validate.specs.declared.Lengths.{Lengths}
 
@@ -27,6 +28,10 @@ commonNumber w h left right share l rest =
     unless (sideOk w && sideOk h) 1
     (unless (planesFit w h l) 2 (unless (tableOk left && tableOk right) 3 (unless (leb share 64) 4 rest)))
 
--- settings of w columns by h rows: all that 6, 5 and 7 look at
+-- settings of w columns by h rows: all of the settings that 5 looks at
 abbrev pub sides : ℕ → ℕ → Settings
 sides w h = record { w = w; h = h; left = []; right = []; share = 0; tolerance = 0; total = 0 }
+
+-- 6, 5, then the rest
+unfoldable pub ownNumber : ℕ → ℕ → ℕ → Block → ℕ → ℕ
+ownNumber w h v b rest = unless (viewOk v) 6 (unless (blockOk (sides w h) b) 5 rest)

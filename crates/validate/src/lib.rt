@@ -1,11 +1,16 @@
 // The tests that turn a call down, in the order of its list. Of a plane they look at its length alone; the entries of a picture are a test apart, which only OPEN makes.
 use model::Block;
+use model::Candidate;
+use model::Point;
 use model::Refusal;
+use model::Split;
 ghost use mathlib.Core.Path.{_≡_};
-ghost use mathlib.Core.Bool.{_&&_};
-ghost use Prim.Native.Nat.{_≤_};
-ghost use Rattle.model.specs.Refusals.{numberOf, sideOk, tableOk, pictureOk, blockOk, ownThen};
-ghost use Rattle.validate.specs.Numbers.{viewFits, planesFit, commonNumber, sides};
+ghost use mathlib.Core.Bool.{cond, _&&_, _||_};
+ghost use Prim.Native.Nat.{_+_, _<_, _≤_};
+ghost use lib.Dec.{eqb};
+ghost use Rattle.model.specs.Candidates.{onBorder, sideShared, lineOk};
+ghost use Rattle.model.specs.Refusals.{numberOf, sideOk, tableOk, pictureOk, blockOk, candidateThen};
+ghost use Rattle.validate.specs.Numbers.{viewFits, planesFit, commonNumber, sides, ownNumber};
 
 // The lengths of the planes of one view.
 pub struct ViewLengths {
@@ -152,9 +157,9 @@ fn block_ok(w: u32, h: u32, block: Block) -> bool
     (block.row as u64) + (block.height as u64) <= (h as u64)
 }
 
-// 6, 5 or 7, the first that applies; n is the candidate's length.
-pub fn own(w: u32, h: u32, view: u32, block: Block, n: usize) -> Refusal
-    ensures { λ r. ⌜ numberOf r ≡ ownThen (sides w h) view block n 0 ⌝ }
+// 6 or 5, the first that applies.
+pub fn own(w: u32, h: u32, view: u32, block: Block) -> Refusal
+    ensures { λ r. ⌜ numberOf r ≡ ownNumber w h view block 0 ⌝ }
 {
     if 1 < view {
         return Refusal::View;
@@ -162,14 +167,10 @@ pub fn own(w: u32, h: u32, view: u32, block: Block, n: usize) -> Refusal
     if !block_ok(w, h, block) {
         return Refusal::Bounds;
     }
-    let area = (block.width as usize) * (block.height as usize);
-    if n != area {
-        return Refusal::Candidate;
-    }
     Refusal::None
 }
 
-// 1, 2, 3, 4, 6, 5 or 7, the first that applies: all that GET and SET refuse before they try the candidate.
+// 1, 2, 3, 4, 6 or 5, the first that applies: all that GET and SET refuse before they look at the candidate.
 pub fn early<'a>(
     w: u32,
     h: u32,
@@ -179,13 +180,116 @@ pub fn early<'a>(
     lengths: Lengths,
     view: u32,
     block: Block,
-    n: usize,
 ) -> Refusal
-    ensures { λ r. ⌜ numberOf r ≡ commonNumber w h (now (left .entry)) (now (right .entry)) share lengths (ownThen (sides w h) view block n 0) ⌝ }
+    ensures { λ r. ⌜ numberOf r ≡ commonNumber w h (now (left .entry)) (now (right .entry)) share lengths (ownNumber w h view block 0) ⌝ }
 {
     let first = common(w, h, left, right, share, lengths);
     if model::number(first) != 0 {
         return first;
     }
-    own(w, h, view, block, n)
+    own(w, h, view, block)
+}
+
+// Number i of a side of n is the first or the last.
+fn at_end(i: u32, n: u32) -> bool
+    requires { ⌜ i < n ⌝ }
+    ensures { λ r. ⌜ r ≡ (eqb i 0 || eqb (i + 1) n) ⌝ }
+{
+    if i < 1 {
+        return true;
+    }
+    n - i == 1
+}
+
+// Numbers i and j of a side of n are both the first or both the last.
+fn both_at_end(i: u32, j: u32, n: u32) -> bool
+    requires { ⌜ i < n ⌝ }
+    ensures { λ r. ⌜ r ≡ ((eqb i 0 && eqb j 0) || (eqb (i + 1) n && eqb (j + 1) n)) ⌝ }
+{
+    if i != j {
+        return false;
+    }
+    at_end(i, n)
+}
+
+// A point of the block that lies in its first or last column or row.
+fn on_border(block: Block, p: Point) -> bool
+    ensures { λ r. ⌜ r ≡ onBorder block p ⌝ }
+{
+    if block.width <= p.column {
+        return false;
+    }
+    if block.height <= p.row {
+        return false;
+    }
+    if at_end(p.column, block.width) {
+        return true;
+    }
+    at_end(p.row, block.height)
+}
+
+// Two points with a side of the block in common: its first or last column or row.
+fn side_shared(block: Block, p: Point, q: Point) -> bool
+    requires { ⌜ (p .column < block .width) × (p .row < block .height) ⌝ }
+    ensures { λ r. ⌜ r ≡ sideShared block p q ⌝ }
+{
+    if both_at_end(p.column, q.column, block.width) {
+        return true;
+    }
+    both_at_end(p.row, q.row, block.height)
+}
+
+// A line has two border points of the block with no side in common.
+fn line_ok(block: Block, start: Point, end: Point) -> bool
+    ensures { λ r. ⌜ r ≡ lineOk block start end ⌝ }
+{
+    if !on_border(block, start) {
+        return false;
+    }
+    if !on_border(block, end) {
+        return false;
+    }
+    !side_shared(block, start, end)
+}
+
+// 7, 14 or 15 by the candidate's kind, none for one value; n is the number of bytes lent with it.
+fn candidate_refusal(block: Block, candidate: Candidate, n: usize) -> Refusal
+    ensures { λ r. ⌜ numberOf r ≡ candidateThen block candidate n 0 ⌝ }
+{
+    let area = (block.width as usize) * (block.height as usize);
+    match candidate {
+        Candidate::Full => {
+            if n != area {
+                return Refusal::Candidate;
+            }
+        }
+        Candidate::Flat(_) => {}
+        Candidate::Regions {
+            value0: _,
+            value1: _,
+            split,
+        } => match split {
+            Split::Line { start, end } => {
+                if !line_ok(block, start, end) {
+                    return Refusal::Line;
+                }
+            }
+            Split::Mask => {
+                if n != (area + 7) / 8 {
+                    return Refusal::Mask;
+                }
+            }
+        },
+    }
+    Refusal::None
+}
+
+// What was refused before, or else the candidate's own number. It is apart from `early`, which the compiler takes into GET only as long as it is small.
+pub fn with_candidate(before: Refusal, block: Block, candidate: Candidate, n: usize) -> Refusal
+    ensures { λ r. ⌜ numberOf r ≡ cond (eqb (numberOf before) 0) (candidateThen block candidate n 0) (numberOf before) ⌝ }
+{
+    if model::number(before) != 0 {
+        return before;
+    }
+    candidate_refusal(block, candidate, n)
 }

@@ -1,20 +1,25 @@
-// The session of document 01, its cases without a star, every refusal alone and before the next, samples at and above the greatest, and HOLES of
-// given marks: each line says what the entries answered.
+// The session of document 01, its cases without a star, every refusal alone and before the next, samples at and above the greatest, candidates of
+// every kind, and HOLES of given marks: each line says what the entries answered.
 use model::Block;
+use model::Candidate;
 use model::Count;
 use model::Edited;
+use model::Point;
 use model::Refusal;
 use model::Report;
 use model::Settings;
+use model::Split;
 ghost use mathlib.Core.Path.{_≡_};
 ghost use lib.ListN.{length};
 
-// One turn of a session: GET, then SET where `write` says so, of a block of `view` and a candidate of `count` entries of `depth`.
-// The change is the one expected. Where `hand` says so, the total is first set to `total` by hand; where `spoil` does, a held and a combined sample
-// become `sample` after SET.
+// One turn of a session: GET, then SET where `write` says so, of a block of `view` and a candidate. The first `count` bytes of `room` are lent beside
+// it; in room 0 all are `depth`. The change is the one expected. Where `hand` says so, the total is first set to `total` by hand; where `spoil` does,
+// a held and a combined sample become `sample` after SET.
 struct Turn {
     view: u32,
     block: Block,
+    candidate: Candidate,
+    room: usize,
     depth: u8,
     count: usize,
     change: i64,
@@ -108,11 +113,13 @@ fn one(column: u32, row: u32) -> Block {
     }
 }
 
-// A turn that tries a candidate, and writes it or not.
+// A turn that tries a depth, and writes it or not.
 fn request(view: u32, block: Block, depth: u8, change: i64, write: bool) -> Turn {
     Turn {
         view: view,
         block: block,
+        candidate: Candidate::Full,
+        room: 0,
         depth: depth,
         count: 1,
         change: change,
@@ -165,6 +172,90 @@ fn spoiled(given: Turn, sample: u16) -> Turn {
     next
 }
 
+// GET and SET of a candidate with some bytes of a room.
+fn chosen(
+    view: u32,
+    block: Block,
+    candidate: Candidate,
+    room: usize,
+    count: usize,
+    change: i64,
+) -> Turn {
+    Turn {
+        view: view,
+        block: block,
+        candidate: candidate,
+        room: room,
+        depth: 6,
+        count: count,
+        change: change,
+        write: true,
+        hand: false,
+        total: 0,
+        spoil: false,
+        sample: 0,
+    }
+}
+
+// A block that begins at column 1 and row 1.
+fn part(width: u32, height: u32) -> Block {
+    Block {
+        column: 1,
+        row: 1,
+        width: width,
+        height: height,
+    }
+}
+
+// The lower three rows of four columns.
+fn lower() -> Block {
+    Block {
+        column: 0,
+        row: 1,
+        width: 4,
+        height: 3,
+    }
+}
+
+// GET and SET of two regions on either side of a line.
+fn line(
+    view: u32,
+    block: Block,
+    column0: u32,
+    row0: u32,
+    column1: u32,
+    row1: u32,
+    change: i64,
+) -> Turn {
+    let start = Point {
+        column: column0,
+        row: row0,
+    };
+    let end = Point {
+        column: column1,
+        row: row1,
+    };
+    let candidate = Candidate::Regions {
+        value0: 3,
+        value1: 8,
+        split: Split::Line {
+            start: start,
+            end: end,
+        },
+    };
+    chosen(view, block, candidate, 0, 0, change)
+}
+
+// GET and SET of the two regions of a mask, whose bits are those of a room.
+fn mask(block: Block, room: usize, count: usize, change: i64) -> Turn {
+    let candidate = Candidate::Regions {
+        value0: 1,
+        value1: 9,
+        split: Split::Mask,
+    };
+    chosen(0, block, candidate, room, count, change)
+}
+
 // The turns of the session, from 0 on: k, l and m, then 8 and 7 before 8, holes of either view, the highest total, and CHECK's reports.
 fn session_turn(i: usize) -> Turn {
     match i {
@@ -196,6 +287,60 @@ fn high_turn(i: usize) -> Turn {
     }
 }
 
+// The turns that try and write two regions and one value, from 60 on: a line from corner to corner, the same line reversed, and a line between two
+// points that are no corners; then a mask with its spare bits 0 and with its spare bits 1, and one value before each.
+fn region_turn(i: usize) -> Turn {
+    match i {
+        60 => line(0, part(3, 3), 0, 0, 2, 2, 130609),
+        61 => line(0, part(3, 3), 2, 2, 0, 0, -1146499),
+        62 => line(1, lower(), 1, 0, 2, 2, 1129546),
+        63 => chosen(0, part(3, 3), Candidate::Flat(6), 0, 0, 261661),
+        64 => mask(part(3, 3), 5, 2, -1297750),
+        65 => chosen(0, part(3, 3), Candidate::Flat(6), 0, 5, 1297750),
+        66 => mask(part(3, 3), 6, 2, -1297750),
+        _ => high_turn(i),
+    }
+}
+
+// The same turns with the depths one by one, from 70 on.
+fn full_turn(i: usize) -> Turn {
+    match i {
+        70 => chosen(0, part(3, 3), Candidate::Full, 1, 9, 130609),
+        71 => chosen(0, part(3, 3), Candidate::Full, 2, 9, -1146499),
+        72 => chosen(1, lower(), Candidate::Full, 3, 12, 1129546),
+        73 => chosen(0, part(3, 3), Candidate::Full, 0, 9, 261661),
+        74 => chosen(0, part(3, 3), Candidate::Full, 4, 9, -1297750),
+        75 => chosen(0, part(3, 3), Candidate::Full, 0, 9, 1297750),
+        76 => chosen(0, part(3, 3), Candidate::Full, 4, 9, -1297750),
+        _ => region_turn(i),
+    }
+}
+
+// The turns whose candidates are refused, from 80 on: 14 for an inner point, points outside, a shared side, and a block of one row or column; 15 and 7
+// for the wrong number of bytes; 5 and 6 before 14 and 15, and 8 after them.
+fn refused_turn(i: usize) -> Turn {
+    match i {
+        80 => line(0, part(3, 3), 1, 1, 2, 2, 0),
+        81 => line(0, part(3, 3), 0, 0, 3, 2, 0),
+        82 => line(0, part(3, 3), 0, 0, 2, 4294967295, 0),
+        83 => line(0, part(3, 3), 4294967295, 4294967295, 2, 2, 0),
+        84 => line(0, part(3, 3), 0, 0, 2, 0, 0),
+        85 => line(0, part(3, 3), 2, 0, 2, 1, 0),
+        86 => line(0, part(3, 1), 0, 0, 2, 0, 0),
+        87 => line(0, part(1, 3), 0, 0, 0, 2, 0),
+        88 => mask(part(3, 3), 5, 1, 0),
+        89 => mask(part(3, 3), 5, 3, 0),
+        90 => chosen(0, part(3, 3), Candidate::Full, 0, 8, 0),
+        91 => line(0, part(4, 3), 1, 1, 2, 2, 0),
+        92 => mask(part(4, 3), 5, 1, 0),
+        93 => line(2, part(3, 3), 1, 1, 2, 2, 0),
+        94 => by_hand(line(0, part(3, 3), 1, 1, 2, 2, 0), 16744465),
+        95 => by_hand(mask(part(3, 3), 5, 1, 0), 16744465),
+        96 => by_hand(line(0, part(3, 3), 0, 0, 2, 2, 0), 16744465),
+        _ => full_turn(i),
+    }
+}
+
 // The turns at a near edge of each view, from 40 on. At the last of each its column lies two past the block's and is the greater of two that are
 // placed there, and the answer depends on it.
 fn edge_turn(i: usize) -> Turn {
@@ -208,7 +353,7 @@ fn edge_turn(i: usize) -> Turn {
         45 => writes(1, 0, 11, 500),
         46 => writes(1, 2, 3, -900),
         47 => writes(1, 2, 0, 900),
-        _ => high_turn(i),
+        _ => refused_turn(i),
     }
 }
 
@@ -305,9 +450,10 @@ fn tried(
     rightLimits: &[i16],
     rightMarks: &[u8],
     combined: &[u16],
-    candidate: &[u8],
+    bytes: &[u8],
 ) {
     let block = turn.block;
+    let candidate = turn.candidate;
     let answer = get::get(
         given,
         left,
@@ -327,6 +473,7 @@ fn tried(
         turn.view,
         block,
         candidate,
+        bytes,
     );
     let refusal = answer.refusal;
     let change = answer.change;
@@ -361,12 +508,13 @@ fn written(
     rightLimits: &mut [i16],
     rightMarks: &mut [u8],
     combined: &mut [u16],
-    candidate: &[u8],
+    bytes: &[u8],
 ) -> Settings {
     if !turn.write {
         return given;
     }
     let block = turn.block;
+    let candidate = turn.candidate;
     let answer = set::set(
         given,
         left,
@@ -386,6 +534,7 @@ fn written(
         turn.view,
         block,
         candidate,
+        bytes,
     );
     say_edited(answer, turn.change)
 }
@@ -451,16 +600,88 @@ fn counted(given: Settings, view: u32, left: &[u8], right: &[u8]) {
     }
 }
 
+// The bytes of a room: the depths of the turns from 70 on, the bits of a mask with spare bits 0 and 1, or one depth.
+fn bytes_of(room: usize, depth: u8) -> [u8; 12]
+    ensures { λ r. ⌜ 12 ≡ length r ⌝ }
+{
+    match room {
+        1 => [3, 3, 3, 8, 3, 3, 8, 8, 3, 0, 0, 0],
+        2 => [3, 8, 8, 3, 3, 8, 3, 3, 3, 0, 0, 0],
+        3 => [8, 3, 3, 3, 8, 8, 3, 3, 8, 8, 3, 3],
+        4 => [1, 9, 1, 9, 9, 1, 1, 9, 9, 0, 0, 0],
+        5 => [154, 1, 0, 0, 0, 0, 0, 0, 0, 0, 0, 0],
+        6 => [154, 255, 0, 0, 0, 0, 0, 0, 0, 0, 0, 0],
+        _ => [depth; 12],
+    }
+}
+
+// Prints the bytes of a turn, where there are any.
+fn say_bytes(room: usize, depth: u8, count: usize) {
+    if count == 0 {
+        return;
+    }
+    if 12 < count {
+        return;
+    }
+    let bytes = bytes_of(room, depth);
+    say_entries(b" bytes", &bytes[..count]);
+}
+
+// Prints a full candidate: one depth and how often it comes, or its depths.
+fn say_full(room: usize, depth: u8, count: usize) {
+    if room == 0 {
+        say_number(b" depth ", depth as u64);
+        say_number(b" count ", count as u64);
+        return;
+    }
+    say(b" full");
+    say_bytes(room, depth, count);
+}
+
+// Prints what divides two regions.
+fn say_split(split: Split) {
+    match split {
+        Split::Line { start, end } => {
+            say_number(b" line ", start.column as u64);
+            say_number(b" ", start.row as u64);
+            say_number(b" ", end.column as u64);
+            say_number(b" ", end.row as u64);
+        }
+        Split::Mask => say(b" mask"),
+    }
+}
+
+// Prints a candidate and the bytes lent beside it.
+fn say_candidate(candidate: Candidate, room: usize, depth: u8, count: usize) {
+    match candidate {
+        Candidate::Full => say_full(room, depth, count),
+        Candidate::Flat(value) => {
+            say_number(b" flat ", value as u64);
+            say_bytes(room, depth, count);
+        }
+        Candidate::Regions {
+            value0,
+            value1,
+            split,
+        } => {
+            say_split(split);
+            say_number(b" values ", value0 as u64);
+            say_number(b" ", value1 as u64);
+            say_bytes(room, depth, count);
+        }
+    }
+}
+
 // Prints what a turn asks for.
 fn say_turn(turn: Turn) {
     let block = turn.block;
+    let candidate = turn.candidate;
     say_number(b"  view ", turn.view as u64);
     say_number(b" block ", block.column as u64);
     say_number(b" ", block.row as u64);
     say_number(b" ", block.width as u64);
     say_number(b" ", block.height as u64);
-    say_number(b" depth ", turn.depth as u64);
-    say_number(b" count ", turn.count as u64);
+    say_candidate(candidate, turn.room, turn.depth, turn.count);
     if turn.hand {
         say_number(b" by hand ", turn.total);
     }
@@ -495,7 +716,7 @@ fn edited(
     rightLimits: &mut [i16],
     rightMarks: &mut [u8],
     combined: &mut [u16],
-    candidate: &[u8],
+    bytes: &[u8],
 ) -> Settings {
     tried(
         given,
@@ -514,7 +735,7 @@ fn edited(
         rightLimits,
         rightMarks,
         combined,
-        candidate,
+        bytes,
     );
     written(
         given,
@@ -533,18 +754,11 @@ fn edited(
         rightLimits,
         rightMarks,
         combined,
-        candidate,
+        bytes,
     )
 }
 
-// A candidate of a turn: four entries of one depth.
-fn entries(depth: u8) -> [u8; 4]
-    ensures { λ r. ⌜ 4 ≡ length r ⌝ }
-{
-    [depth; 4]
-}
-
-// GET and SET of a turn with its candidate, of at most four entries.
+// GET and SET of a turn with its bytes, of which there are at most twelve.
 fn took(
     given: Settings,
     turn: Turn,
@@ -563,9 +777,9 @@ fn took(
     rightMarks: &mut [u8],
     combined: &mut [u16],
 ) -> Settings {
-    let room = entries(turn.depth);
+    let room = bytes_of(turn.room, turn.depth);
     let count = turn.count;
-    if 4 < count {
+    if 12 < count {
         return given;
     }
     edited(
@@ -874,6 +1088,84 @@ fn small(title: &[u8], given: Settings, start: usize, end: usize) {
     pictured(title, given, start, end, &texture, &texture, &texture);
 }
 
+// A session of four rows of four columns with depths of 0, and the depths after its turns.
+fn square(title: &[u8], start: usize, end: usize) {
+    let given = settings(4, 4, 255, 255, 16);
+    let texture = [
+        10u16,
+        200,
+        30,
+        400,
+        500,
+        60,
+        70,
+        8,
+        90,
+        1000,
+        110,
+        120,
+        13,
+        140,
+        650,
+        16,
+    ];
+    let reference = [
+        10u16,
+        20,
+        30,
+        40,
+        50,
+        600,
+        70,
+        80,
+        9,
+        100,
+        110,
+        12,
+        130,
+        40,
+        15,
+        160,
+    ];
+    let mut leftDepths = [0u8; 16];
+    let mut rightDepths = [0u8; 16];
+    let mut leftSamples = [0u16; 16];
+    let mut leftFronts = [0u8; 16];
+    let mut leftLimits = [0i16; 16];
+    let mut leftMarks = [0u8; 4];
+    let mut rightSamples = [0u16; 16];
+    let mut rightFronts = [0u8; 16];
+    let mut rightLimits = [0i16; 16];
+    let mut rightMarks = [0u8; 4];
+    let mut combined = [0u16; 16];
+    say(title);
+    play(
+        given,
+        start,
+        end,
+        &texture,
+        &texture,
+        &reference,
+        &texture,
+        &texture,
+        &reference,
+        &mut leftDepths,
+        &mut rightDepths,
+        &mut leftSamples,
+        &mut leftFronts,
+        &mut leftLimits,
+        &mut leftMarks,
+        &mut rightSamples,
+        &mut rightFronts,
+        &mut rightLimits,
+        &mut rightMarks,
+        &mut combined,
+    );
+    say_entries(b"  left depths", &leftDepths);
+    say_entries(b"\n  right depths", &rightDepths);
+    say(b"\n");
+}
+
 // A plane of 4,096 samples.
 fn samples(entry: u16) -> [u16; 4096]
     ensures { λ r. ⌜ 4096 ≡ length r ⌝ }
@@ -1140,6 +1432,13 @@ fn run_order() {
     );
 }
 
+// Two regions and one value, the same depths in full, and what is refused.
+fn run_candidates() {
+    square(b"candidates", 60, 67);
+    square(b"candidates in full", 70, 77);
+    square(b"candidates refused", 80, 97);
+}
+
 // RENDER of some rows, what it takes and what it refuses.
 fn run_strips() {
     let torn = [0u8, 0, 5, 0];
@@ -1250,6 +1549,7 @@ fn main() {
     run_samples();
     run_refused();
     run_order();
+    run_candidates();
     run_strips();
     run_strip_samples();
     run_strip_order();

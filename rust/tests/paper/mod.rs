@@ -4,7 +4,7 @@
 //! by a fresh drawing of the whole picture.
 #![allow(dead_code)] // each test program uses its own part
 
-use luphwezane::{Block, Pictures, Planes, Report, Settings};
+use luphwezane::{Block, Candidate, Pictures, Planes, Point, Regions, Report, Settings};
 
 /// The greatest sample (card 12).
 pub const WHITE: u16 = 1023;
@@ -233,9 +233,55 @@ pub fn drawing(settings: &Settings, pictures: &Pictures, depths: [&[u8]; 2]) -> 
     all
 }
 
+/// The sides of a block that a point of it lies on: first column, last column, first row, last row (card 6). No point outside
+/// the block lies on one.
+pub fn sides(block: Block, point: Point) -> [bool; 4] {
+    let [column, row, width, height] = [point.column, point.row, block.width, block.height].map(u64::from);
+    let within = column < width && row < height;
+    [column == 0, column + 1 == width, row == 0, row + 1 == height].map(|on| within && on)
+}
+
+/// A line has two border points of the block with no side in common.
+pub fn line_is_taken(block: Block, start: Point, end: Point) -> bool {
+    let (start, end) = (sides(block, start), sides(block, end));
+    start.contains(&true) && end.contains(&true) && !start.iter().zip(end).any(|(a, b)| *a && b)
+}
+
+/// Whether a position is in region 1 of a line.
+pub fn beside(start: Point, end: Point, column: u32, row: u32) -> bool {
+    let [from, to, at] = [start, end, Point { column, row }].map(|point| (i128::from(point.column), i128::from(point.row)));
+    (to.0 - from.0) * (at.1 - from.1) - (to.1 - from.1) * (at.0 - from.0) > 0
+}
+
+/// (area + 7) div 8 bytes of a mask.
+#[allow(clippy::manual_div_ceil)]
+pub fn mask_length(block: Block) -> u64 {
+    (u64::from(block.width) * u64::from(block.height) + 7) / 8
+}
+
+/// The bit of a position: one bit a position, packed by rows without gaps, low bit first.
+pub fn bit(block: Block, bits: &[u8], column: u32, row: u32) -> bool {
+    let k = row as usize * block.width as usize + column as usize;
+    bits[k / 8] >> (k % 8) & 1 == 1
+}
+
+/// The depths of a block so filled, in row order: each region's value fills its positions, region 0 being the rest.
+pub fn filled(block: Block, candidate: Candidate) -> Vec<u8> {
+    let mut depths = Vec::new();
+    for (row, column) in (0..block.height).flat_map(|row| (0..block.width).map(move |column| (row, column))) {
+        depths.push(match candidate {
+            Candidate::Full(depths) => depths[row as usize * block.width as usize + column as usize],
+            Candidate::Flat(value) => value,
+            Candidate::Regions { values, regions: Regions::Line { start, end } } => values[usize::from(beside(start, end, column, row))],
+            Candidate::Regions { values, regions: Regions::Mask(bits) } => values[usize::from(bit(block, bits, column, row))],
+        });
+    }
+    depths
+}
+
 /// The depth planes with the candidate written into the block of the view's plane.
-pub fn written(settings: &Settings, depths: [&[u8]; 2], view: usize, block: Block, candidate: &[u8]) -> [Vec<u8>; 2] {
-    let mut planes = depths.map(<[u8]>::to_vec);
+pub fn written(settings: &Settings, depths: [&[u8]; 2], view: usize, block: Block, candidate: Candidate) -> [Vec<u8>; 2] {
+    let (mut planes, candidate) = (depths.map(<[u8]>::to_vec), filled(block, candidate));
     for y in 0..block.height as usize {
         for x in 0..block.width as usize {
             let at = (block.row as usize + y) * settings.w as usize + block.column as usize + x;
@@ -299,8 +345,19 @@ pub fn total_is_taken(settings: &Settings, change: i64) -> bool {
     (0..=i128::from(WORST) * i128::from(settings.w) * i128::from(settings.h)).contains(&total)
 }
 
-/// GET and SET refuse 1, 2, 3, 4, 6, 5, 7, and then 8, which is left out here.
-pub fn call_number(settings: &Settings, pictures: &Pictures, planes: &Planes, view: u32, block: Block, candidate: &[u8]) -> u32 {
+/// What a candidate's kind turns down: 7 a full block, 14 a line, 15 a mask. The number, 0 for none.
+pub fn candidate_number(block: Block, candidate: Candidate) -> u32 {
+    let area = u64::from(block.width) * u64::from(block.height);
+    match candidate {
+        Candidate::Full(depths) if depths.len() as u64 != area => 7,
+        Candidate::Regions { regions: Regions::Line { start, end }, .. } if !line_is_taken(block, start, end) => 14,
+        Candidate::Regions { regions: Regions::Mask(bits), .. } if bits.len() as u64 != mask_length(block) => 15,
+        _ => 0,
+    }
+}
+
+/// GET and SET refuse 1, 2, 3, 4, 6, 5, then what the candidate's kind has, and then 8, which is left out here.
+pub fn call_number(settings: &Settings, pictures: &Pictures, planes: &Planes, view: u32, block: Block, candidate: Candidate) -> u32 {
     let common = common_number(settings, pictures, planes);
     let [column, row, width, height] = [block.column, block.row, block.width, block.height].map(u64::from);
     if common != 0 {
@@ -309,10 +366,8 @@ pub fn call_number(settings: &Settings, pictures: &Pictures, planes: &Planes, vi
         6
     } else if width == 0 || height == 0 || column + width > u64::from(settings.w) || row + height > u64::from(settings.h) {
         5
-    } else if candidate.len() as u64 != width * height {
-        7
     } else {
-        0
+        candidate_number(block, candidate)
     }
 }
 

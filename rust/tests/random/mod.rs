@@ -1,7 +1,8 @@
-//! Random numbers, settings, pictures and blocks for the tests, all from one printed seed.
+//! Random numbers, settings, pictures, blocks and candidates for the tests, all from one printed seed.
 #![allow(dead_code)] // each test program uses its own part
 
-use luphwezane::{Block, Pictures, Planes, PlanesMut, Settings};
+use crate::paper;
+use luphwezane::{Block, Candidate, Pictures, Planes, PlanesMut, Point, Settings};
 use std::io::Write;
 
 /// A small generator (SplitMix64).
@@ -230,9 +231,168 @@ pub fn edited_block(random: &mut Random, settings: &Settings, view: usize, depth
     Block { column: column as u32, row: row as u32, width: (end - first) as u32, height: (last - row + 1) as u32 }
 }
 
-/// Candidate depths for a block: flat, noise, few levels, any depths of the plane, or the depths as they are, some or none of
-/// them moved.
-pub fn candidate(random: &mut Random, w: usize, depths: &[u8], block: Block) -> Vec<u8> {
+/// A candidate with bytes of its own, as a C program passes it: kind 0 is a full block, 1 one value, 2 a line, 3 a mask, and
+/// others are unknown. What its kind does not look at may be anything.
+#[derive(Clone, PartialEq, Eq, Debug)]
+pub struct Tried {
+    pub kind: u32,
+    pub values: [u8; 2],
+    pub start: Point,
+    pub end: Point,
+    pub bytes: Guarded<u8>,
+}
+
+impl Tried {
+    /// The same as the crate takes it; nothing where the kind is unknown.
+    pub fn known(&self) -> Option<Candidate<'_>> {
+        let Tried { values, start, end, .. } = *self;
+        match self.kind {
+            0 => Some(Candidate::Full(self.bytes.entries())),
+            1 => Some(Candidate::Flat(values[0])),
+            2 => Some(Candidate::line(start, end, values)),
+            3 => Some(Candidate::mask(self.bytes.entries(), values)),
+            _ => None,
+        }
+    }
+
+    /// The same for the independent renderer: a kind that is unknown is refused as a full block without depths is.
+    pub fn candidate(&self) -> Candidate<'_> {
+        self.known().unwrap_or(Candidate::Full(&[]))
+    }
+
+    /// Its depths as a full block.
+    pub fn as_full(&self, block: Block) -> Tried {
+        full(&paper::filled(block, self.candidate()))
+    }
+}
+
+/// A full block of these depths.
+pub fn full(depths: &[u8]) -> Tried {
+    Tried {
+        kind: 0,
+        values: [0; 2],
+        start: Point { column: 0, row: 0 },
+        end: Point { column: 0, row: 0 },
+        bytes: Guarded::new(depths, 0x3c),
+    }
+}
+
+/// A candidate that a block takes, of any kind that it can have.
+pub fn candidate(random: &mut Random, w: usize, depths: &[u8], block: Block) -> Tried {
+    let tried = anything(random, depths, block);
+    match random.between(0, 11) {
+        0..=3 => Tried { kind: 0, bytes: Guarded::new(&full_depths(random, w, depths, block), 0x3c), ..tried },
+        4..=6 => Tried { kind: 1, ..tried },
+        7..=9 if block.width > 1 && block.height > 1 => {
+            let (start, end) = line(random, block);
+            Tried { kind: 2, start, end, ..tried }
+        }
+        _ => Tried { kind: 3, bytes: Guarded::new(&bits(random, paper::mask_length(block) as usize), 0x3c), ..tried },
+    }
+}
+
+/// A candidate that a block does not take: 7, 14 or 15.
+pub fn refused_candidate(random: &mut Random, w: usize, depths: &[u8], block: Block) -> Tried {
+    let tried = anything(random, depths, block);
+    let resized = |random: &mut Random, right: usize| {
+        let lengths = [0, right - 1, right - 1, right + 1, right + 1, right + 8, 2 * right, right.div_ceil(8), 8 * right];
+        let wrong: Vec<usize> = lengths.into_iter().filter(|&n| n != right).collect();
+        let length = random.pick(&wrong);
+        Guarded::new(&bits(random, length), 0x3c)
+    };
+    match random.between(0, 9) {
+        0 | 1 => Tried { kind: 0, bytes: resized(random, (block.width * block.height) as usize), ..tried },
+        2..=5 => {
+            let (start, end) = refused_line(random, block);
+            Tried { kind: 2, start, end, ..tried }
+        }
+        6 | 7 => Tried { kind: 3, bytes: resized(random, paper::mask_length(block) as usize), ..tried },
+        _ => Tried { kind: unknown_kind(random), ..candidate(random, w, depths, block) },
+    }
+}
+
+fn unknown_kind(random: &mut Random) -> u32 {
+    let high = random.pick(&[4, 256, 1 << 16, 1 << 24, 1 << 31]);
+    random.pick(&[4, 5, 255, u32::MAX, u32::MAX - 3, high, high + 1, high + 2, high + 3])
+}
+
+/// Any kind, with the unknown ones.
+pub fn kind(random: &mut Random) -> u32 {
+    let unknown = unknown_kind(random);
+    random.pick(&[0, 1, 2, 3, unknown])
+}
+
+/// Values, points and bytes, whatever a kind looks at.
+fn anything(random: &mut Random, depths: &[u8], block: Block) -> Tried {
+    let values = [(); 2].map(|()| if random.once_in(2) { random.byte() } else { random.pick(depths) });
+    let (start, end, length) = (point(random, block), point(random, block), random.between(0, 20));
+    Tried { kind: 0, values, start, end, bytes: Guarded::new(&random.bytes(length), 0x3c) }
+}
+
+/// Bits of a mask: any, few, many, none or all.
+fn bits(random: &mut Random, length: usize) -> Vec<u8> {
+    match random.between(0, 7) {
+        0 => vec![random.pick(&[0, 255]); length],
+        1 => (0..length).map(|_| 1 << random.between(0, 7)).collect(),
+        2 => (0..length).map(|_| !(1 << random.between(0, 7))).collect(),
+        _ => random.bytes(length),
+    }
+}
+
+/// Two border points with no side in common, of a block of two columns and rows at least: from either to the other, many of
+/// them corners.
+pub fn line(random: &mut Random, block: Block) -> (Point, Point) {
+    let mut border = || {
+        let along = |random: &mut Random, n: u32| {
+            let any = random.between(0, n as usize - 1) as u32;
+            random.pick(&[0, n - 1, any])
+        };
+        let (mut column, mut row) = (along(random, block.width), along(random, block.height));
+        match random.once_in(2) {
+            true => column = random.pick(&[0, block.width - 1]),
+            false => row = random.pick(&[0, block.height - 1]),
+        }
+        Point { column, row }
+    };
+    loop {
+        let (start, end) = (border(), border());
+        if paper::line_is_taken(block, start, end) {
+            return (start, end);
+        }
+    }
+}
+
+/// Two points that make no line: inside, outside, far outside, or on one side.
+pub fn refused_line(random: &mut Random, block: Block) -> (Point, Point) {
+    loop {
+        let (start, end) = (point(random, block), point(random, block));
+        if !paper::line_is_taken(block, start, end) {
+            return (start, end);
+        }
+    }
+}
+
+/// A point of the border, inside, just outside, or anywhere.
+fn point(random: &mut Random, block: Block) -> Point {
+    if block.width > 2 && block.height > 2 && random.once_in(5) {
+        let [column, row] = [block.width, block.height].map(|n| random.between(1, n.min(4096) as usize - 2) as u32);
+        return Point { column, row };
+    }
+    let mut along = |n: u32| match random.between(0, 19) {
+        0..=5 => 0,
+        6..=11 => n.wrapping_sub(1),
+        12..=15 => random.between(0, n.max(1) as usize - 1) as u32,
+        16 => random.pick(&[n, n.wrapping_add(1), n.wrapping_sub(2)]),
+        17 => random.pick(&[u32::MAX, u32::MAX - 1, 1 << 31, (1 << 31) - 1, 4096, 65536]),
+        18 => random.pick(&[0u32.wrapping_sub(n), n.wrapping_add(65535), n.wrapping_add((1 << 31) - 1), 1 << 16]),
+        _ => random.next() as u32,
+    };
+    Point { column: along(block.width), row: along(block.height) }
+}
+
+/// Depths of a full block: flat, noise, few levels, any depths of the plane, or the depths as they are, some or none of them
+/// moved.
+pub fn full_depths(random: &mut Random, w: usize, depths: &[u8], block: Block) -> Vec<u8> {
     let area = (block.width * block.height) as usize;
     let now = || -> Vec<u8> {
         let rows = block.row as usize..(block.row + block.height) as usize;

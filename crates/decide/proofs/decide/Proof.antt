@@ -28,24 +28,24 @@ kept c =
     heldOf (a .leftSamples .now) (a .leftFronts .now) (a .leftLimits .now) (a .leftMarks .now) (a .rightSamples .now) (a .rightFronts .now)
     (a .rightLimits .now) (a .rightMarks .now) (a .combined .now)
 
-abbrev start : tie.After-early → tie.Start
-start c = c .before .before .before .before .before .before .before .before .before .before .before .before .before .before
+abbrev start : tie.After-with-candidate → tie.Start
+start c = c .before .before .before .before .before .before .before .before .before .before .before .before .before .before .before
 
 -- the early refusal that was found
-found : (c : tie.After-early) (total : ℕ) → numberOf (c .early .result) ≡ earlyNumber (settings (start c) total) (shown (start c)) (lent (start c)) (kept (start c)) (start c .args .view) (start c .args .block) (length (start c .args .candidate .now))
+found : (c : tie.After-with-candidate) (total : ℕ) → numberOf (c .with-candidate .result) ≡ earlyNumber (settings (start c) total) (shown (start c)) (lent (start c)) (kept (start c)) (start c .args .view) (start c .args .block) (start c .args .candidate) (length (start c .args .bytes .now))
 found c total =
-    c .early .ensures
-    ∙ early-number (settings (start c) total) (shown (start c)) (lent (start c)) (kept (start c)) (start c .args .view) (start c .args .block) (length (start c .args .candidate .now))
+    early-number (settings (start c) total) (shown (start c)) (lent (start c)) (kept (start c)) (start c .args .view) (start c .args .block) (start c .args .candidate) (length (start c .args .bytes .now)) _ _
+    (c .before .early .ensures) (c .with-candidate .ensures)
 
 -- none was found
-none : (c : tie.Else1) (total : ℕ) → let a = start (c .before .before) in earlyNumber (settings a total) (shown a) (lent a) (kept a) (a .args .view) (a .args .block) (length (a .args .candidate .now)) ≡ 0
+none : (c : tie.Else1) (total : ℕ) → let a = start (c .before .before) in earlyNumber (settings a total) (shown a) (lent a) (kept a) (a .args .view) (a .args .block) (a .args .candidate) (length (a .args .bytes .now)) ≡ 0
 none c total = sym (found (c .before .before) total) ∙ sym (c .before .number .ensures) ∙ c .if1 .left
 
 returns : tie.Need-returns
 returns c =
     let r = c .refused .ensures in
     let n = ap numberOf (r .0) in
-    decided-early _ _ _ _ _ _ _ _ (n ∙ found (c .before .before .before) _) (λ z. c .before .if1 .taken (c .before .before .number .ensures ∙ sym n ∙ z)) (r .1 .0) (r .1 .1)
+    decided-early _ _ _ _ _ _ _ _ _ (n ∙ found (c .before .before .before) _) (λ z. c .before .if1 .taken (c .before .before .number .ensures ∙ sym n ∙ z)) (r .1 .0) (r .1 .1)
 
 try-candidate-requires : tie.Need-try-candidate-requires
 try-candidate-requires c κs = none c 0
@@ -53,7 +53,7 @@ try-candidate-requires c κs = none c 0
 most-total-requires : tie.Need-most-total-requires
 most-total-requires c κs =
     let a = start (c .before .before .before) in
-    let f = passed (settings a 0) (shown a) (lent a) (kept a) (a .args .view) (a .args .block) (a .args .candidate .now) (none (c .before) 0) in
+    let f = passed (settings a 0) (shown a) (lent a) (kept a) (a .args .view) (a .args .block) (a .args .candidate) (a .args .bytes .now) (none (c .before) 0) in
     (f .common .size .w .most, f .common .size .h .most)
 
 returns-2 : tie.Need-returns-2
@@ -61,14 +61,15 @@ returns-2 c =
     let e = c .before .before .before in
     let a = start (e .before .before) in
     let s = settings a (a .args .total) in
-    decided-late s (shown a) (lent a) (kept a) (a .args .view) (a .args .block) (a .args .candidate .now) (c .judge .result) (none e (a .args .total))
-    (tried-total s (shown a) (lent a) (kept a) (a .args .view) (a .args .block) (a .args .candidate .now) 0 (c .before .before .try-candidate .ensures))
+    decided-late s (shown a) (lent a) (kept a) (a .args .view) (a .args .block) (a .args .candidate) (a .args .bytes .now) (c .judge .result) (none e (a .args .total))
+    (tried-total s (shown a) (lent a) (kept a) (a .args .view) (a .args .block) (a .args .candidate) (a .args .bytes .now) 0 (c .before .before .try-candidate .ensures))
     (rw (c .before .most-total .ensures .0) at (c .judge .ensures))
 
 pub decide-spec : {M : Type 1} → statement M
 decide-spec =
     tie.close
     (tie.spec
+    (λ c κs. search needs)
     (λ c κs. search needs)
     (λ c κs. search needs)
     (λ c κs. search needs)

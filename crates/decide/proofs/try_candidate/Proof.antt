@@ -1,41 +1,26 @@
-use mathlib.Core.Bool.{true, false}
-use borrow.Author.Tests.{eq-eqb, ne-eqb}
-use Rattle.decide.proofs.Ways.{passed, tried}
+use mathlib.Core.Path.{_≡_, sym, _∙_}
+use mathlib.Core.Bool.{true}
+use denote.Ref.{now}
+use Rattle.fill.specs.Rows.{isLent}
+use Rattle.fill.proofs.Rows.{lent-filled, lent-full}
 use borrow.Author.Needs.{needs}
 use Rattle.decide.proofs.try_candidate.Statement.{statement}
 use Rattle.decide.proofs.try_candidate.Tie as tie
 
-trial-block-requires : tie.Need-trial-block-requires
-trial-block-requires c κs =
-    let start = c .before .before .before .before .before .before .before .before .before .before .before .before .before .before .before .before .before .before in
-    let f = passed _ _ _ _ _ _ (start .args .candidate .now) (start .pre) in
-    ((f .table true, f .common .share), (f .sized true, f .fits))
+-- a candidate whose rows are lent is a full block, and its depths are the bytes
+try-lent-requires : tie.Need-try-lent-requires
+try-lent-requires c κs =
+    let s = c .before .before .before .before .before .before .before .before .before .before .before .before .before .before .before in
+    rw (lent-full (s .args .candidate) (sym (c .before .lent .ensures) ∙ c .if1 .taken)) at (s .pre)
 
 returns : tie.Need-returns
 returns c =
-    let start = c .before .before .before .before .before .before .before .before .before .before .before .before .before .before .before .before .before .before .before in
-    tried _ _ _ _ _ _ _ true (passed _ _ _ _ _ _ (start .args .candidate .now) (start .pre)) (eq-eqb _ _ (c .before .if1 .taken)) (c .trial-block .ensures)
+    let a = c .before .before .before .before .before .before .before .before .before .before .before .before .before .before .before .before .args in
+    rw (lent-filled (a .block) (a .candidate) (now (a .bytes)) (sym (c .before .before .lent .ensures) ∙ c .before .if1 .taken)) (c .try-lent .ensures)
 
-trial-block-requires-2 : tie.Need-trial-block-requires-2
-trial-block-requires-2 c κs =
-    let start = c .before .before .before .before .before .before .before .before .before .before .before .before .before .before .before .before .before .before in
-    let f = passed _ _ _ _ _ _ (start .args .candidate .now) (start .pre) in
-    ((f .table false, f .common .share), (f .sized false, f .fits))
-
-returns-2 : tie.Need-returns-2
-returns-2 c =
-    let start = c .before .before .before .before .before .before .before .before .before .before .before .before .before .before .before .before .before .before .before in
-    tried _ _ _ _ _ _ _ false (passed _ _ _ _ _ _ (start .args .candidate .now) (start .pre)) (ne-eqb _ _ (c .before .if1 .left)) (c .trial-block2 .ensures)
+try-made-requires : tie.Need-try-made-requires
+try-made-requires c κs = (c .before .before .before .before .before .before .before .before .before .before .before .before .before .before .before .pre, sym (c .before .lent .ensures) ∙ c .if1 .left)
 
 pub try-candidate-spec : {M : Type 1} → statement M
 try-candidate-spec =
-    tie.close
-    (tie.spec
-    (λ c. search needs)
-    (λ c. search needs)
-    (λ c. search needs)
-    (λ c. search needs)
-    trial-block-requires
-    returns
-    trial-block-requires-2
-    returns-2)
+    tie.close (tie.spec (λ c κs. search needs) try-lent-requires returns try-made-requires (λ c. search needs))

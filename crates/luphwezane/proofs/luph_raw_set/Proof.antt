@@ -1,17 +1,13 @@
 -- `luphwezane::luph_raw_set` answers what SET promises.
-use mathlib.Core.Path.{refl}
+use mathlib.Core.Path.{refl, sym}
+use lib.Seq.{length-take-le}
 use mir.Facts.{toZ-ofZ}
 use mir.Syntax.{w64}
 use mir.Val.{SFits}
+use Rattle.shape.specs.Shapes.{bytesOf}
 use borrow.Author.Needs.{needs}
 use Rattle.luphwezane.proofs.luph_raw_set.Statement.{statement}
 use Rattle.luphwezane.proofs.luph_raw_set.Tie as tie
-
-set-requires : tie.Need-set-requires
-set-requires c κs = search needs
-
-number-requires : tie.Need-number-requires
-number-requires c κs = search needs
 
 same-length : tie.Need-same-length
 same-length c = search needs
@@ -46,12 +42,6 @@ same-length-10 c = search needs
 same-length-11 : tie.Need-same-length-11
 same-length-11 c = search needs
 
-returns : tie.Need-returns
-returns c =
-    let g = c .before .before .before .before .before .before .before .before .before .before .before .before .before .before .before .before .before .before .before .before .before .before .before .before .set in
-    let fits : SFits w64 (g .result .change) = (let told = c .struct-told in search needs) in
-    record { reply = g .result; promised = g .ensures; number-is = c .before .before .before .number .ensures; accepted = λ _. (toZ-ofZ fits, refl); refused = λ ne. absurd (ne (c .before .before .if1 .taken)) }
-
 same-length-12 : tie.Need-same-length-12
 same-length-12 c = search needs
 
@@ -85,17 +75,43 @@ same-length-21 c = search needs
 same-length-22 : tie.Need-same-length-22
 same-length-22 c = search needs
 
+slice-aggregate-set : tie.Need-slice-aggregate-set
+slice-aggregate-set c = sym (length-take-le _ _ (c .before .before .before .before .before .before .before .before .before .before .before .before .before .lent .ensures .1))
+
+returns : tie.Need-returns
+unfolding bytesOf
+returns c =
+    let g = c .before .before .before .before .before .before .before .before .before .before .before .before .before .before .before .before .before .before .before .before .before .before .before .before .set in
+    let fits : SFits w64 (g .result .change) = (let told = c .struct-told in search needs) in
+    record {
+      reply = g .result;
+      promised = rw (c .before .before .before .before .before .before .before .before .before .before .before .before .before .before .before .before .before .before .before .before .before .before .before .before .before .before .candidate-of .ensures, c .before .before .before .before .before .before .before .before .before .before .before .before .before .before .before .before .before .before .before .before .before .before .before .before .before .before .before .before .before .before .before .before .before .before .before .before .before .before .lent .ensures .0) at (g .ensures);
+      number-is = c .before .before .before .number .ensures;
+      accepted = λ _. (toZ-ofZ fits, refl);
+      refused = λ ne. absurd (ne (c .before .before .if1 .taken));
+    }
+
 returns-2 : tie.Need-returns-2
+unfolding bytesOf
 returns-2 c =
     let g = c .before .before .before .before .before .before .before .before .before .before .before .before .before .before .before .before .before .before .before .before .before .before .set in
-    record { reply = g .result; promised = g .ensures; number-is = c .before .number .ensures; accepted = λ z. absurd (c .if1 .left z); refused = λ _. (refl, refl) }
+    record {
+      reply = g .result;
+      promised = rw (c .before .before .before .before .before .before .before .before .before .before .before .before .before .before .before .before .before .before .before .before .before .before .before .before .candidate-of .ensures, c .before .before .before .before .before .before .before .before .before .before .before .before .before .before .before .before .before .before .before .before .before .before .before .before .before .before .before .before .before .before .before .before .before .before .before .before .lent .ensures .0) at (g .ensures);
+      number-is = c .before .number .ensures;
+      accepted = λ z. absurd (c .if1 .left z);
+      refused = λ _. (refl, refl);
+    }
 
 pub luph-raw-set-spec : {M : Type 1} → statement M
 luph-raw-set-spec =
     tie.close
     (tie.spec
-    set-requires
-    number-requires
+    (λ c κs. search needs)
+    (λ c κs. search needs)
+    slice-aggregate-set
+    (λ c κs. search needs)
+    (λ c κs. search needs)
     same-length
     same-length-2
     same-length-3

@@ -14,40 +14,41 @@ use Rattle.set.proofs.set.Tie as tie
 
 returns : tie.Need-returns
 returns c =
-    let start = c .before .before .before .before .before .before .before .before .before .before .before .before .before .before .before .before .before .before .before in
+    let start = c .before .before .before .before .before .before .before .before .before .before .before .before .before .before .before .before .before .before .before .before in
     let a = start .args in
     let p = pictures (a .left .now) (a .right .now) (a .reference .now) in
     let d = depths (a .leftDepths .now) (a .rightDepths .now) in
     let h = heldOf (a .leftSamples .now) (a .leftFronts .now) (a .leftLimits .now) (a .leftMarks .now) (a .rightSamples .now) (a .rightFronts .now) (a .rightLimits .now) (a .rightMarks .now) (a .combined .now) in
-    let found = c .before .before .early .ensures ∙ early-number (a .t1) p d h (a .view) (a .block) (length (a .candidate .now)) in
-    refused (a .t1) p d h (a .view) (a .block) (a .candidate .now) (c .before .before .early .result) found (λ z. c .if1 .taken (c .before .number .ensures ∙ z))
+    let found = early-number (a .t1) p d h (a .view) (a .block) (a .candidate) (length (a .bytes .now)) _ _ (c .before .before .before .early .ensures) (c .before .before .with-candidate .ensures) in
+    refused (a .t1) p d h (a .view) (a .block) (a .candidate) (a .bytes .now) (c .before .before .with-candidate .result) found (λ z. c .if1 .taken (c .before .number .ensures ∙ z))
 
 settle-view-requires : tie.Need-settle-view-requires
 settle-view-requires c κs =
-    let start = c .before .before .before .before .before .before .before .before .before .before .before .before .before .before .before .before .before .before .before .before .before .before .before .before .before .before .before .before .before .before .before .before .before in
+    let start = c .before .before .before .before .before .before .before .before .before .before .before .before .before .before .before .before .before .before .before .before .before .before .before .before .before .before .before .before .before .before .before .before .before .before in
     let a = start .args in
     let p = pictures (a .left .now) (a .right .now) (a .reference .now) in
     let d = depths (a .leftDepths .now) (a .rightDepths .now) in
     let h = heldOf (a .leftSamples .now) (a .leftFronts .now) (a .leftLimits .now) (a .leftMarks .now) (a .rightSamples .now) (a .rightFronts .now) (a .rightLimits .now) (a .rightMarks .now) (a .combined .now) in
-    let found = c .before .before .before .before .before .before .before .before .before .before .before .before .before .before .before .before .early .ensures ∙ early-number (a .t1) p d h (a .view) (a .block) (length (a .candidate .now)) in
+    let found = early-number (a .t1) p d h (a .view) (a .block) (a .candidate) (length (a .bytes .now)) _ _ (c .before .before .before .before .before .before .before .before .before .before .before .before .before .before .before .before .before .early .ensures) (c .before .before .before .before .before .before .before .before .before .before .before .before .before .before .before .before .with-candidate .ensures) in
     sym found ∙ sym (c .before .before .before .before .before .before .before .before .before .before .before .before .before .before .before .number .ensures) ∙ c .before .before .before .before .before .before .before .before .before .before .before .before .before .before .if1 .left
 
 returns-2 : tie.Need-returns-2
 returns-2 c =
-    let start = c .before .before .before .before .before .before .before .before .before .before .before .before .before .before .before .before .before .before .before .before .before .before .before .before .before .before .before .before .before .before .before .before .before .before .before .before .before .before .before .before .before .before .before .before .before .before .before .before .before .before .before .before .before .before .before in
+    let start = c .before .before .before .before .before .before .before .before .before .before .before .before .before .before .before .before .before .before .before .before .before .before .before .before .before .before .before .before .before .before .before .before .before .before .before .before .before .before .before .before .before .before .before .before .before .before .before .before .before .before .before .before .before .before .before .before in
     let a = start .args in
     let p = pictures (a .left .now) (a .right .now) (a .reference .now) in
     let d = depths (a .leftDepths .now) (a .rightDepths .now) in
     let h = heldOf (a .leftSamples .now) (a .leftFronts .now) (a .leftLimits .now) (a .leftMarks .now) (a .rightSamples .now) (a .rightFronts .now) (a .rightLimits .now) (a .rightMarks .now) (a .combined .now) in
-    let found = c .before .before .before .before .before .before .before .before .before .before .before .before .before .before .before .before .before .before .before .before .before .before .before .before .before .before .before .before .before .before .before .before .before .before .before .before .before .before .early .ensures ∙ early-number (a .t1) p d h (a .view) (a .block) (length (a .candidate .now)) in
+    let found = early-number (a .t1) p d h (a .view) (a .block) (a .candidate) (length (a .bytes .now)) _ _ (c .before .before .before .before .before .before .before .before .before .before .before .before .before .before .before .before .before .before .before .before .before .before .before .before .before .before .before .before .before .before .before .before .before .before .before .before .before .before .before .early .ensures) (c .before .before .before .before .before .before .before .before .before .before .before .before .before .before .before .before .before .before .before .before .before .before .before .before .before .before .before .before .before .before .before .before .before .before .before .before .before .before .with-candidate .ensures) in
     let settling = c .before .before .before .before .before .before .before .before .before .before .before .before .before .before .before .before .before .before .before .before .before .settle-view in
     let fits : SFits w64 (settling .result .change) = (let told = c .struct-told in search needs) in
-    settled (a .t1) p d h (a .view) (a .block) (a .candidate .now) (settling .result) _ (toZ-ofZ fits) _ _ (sym found ∙ sym (c .before .before .before .before .before .before .before .before .before .before .before .before .before .before .before .before .before .before .before .before .before .before .before .before .before .before .before .before .before .before .before .before .before .before .before .before .before .number .ensures) ∙ c .before .before .before .before .before .before .before .before .before .before .before .before .before .before .before .before .before .before .before .before .before .before .before .before .before .before .before .before .before .before .before .before .before .before .before .before .if1 .left) (settling .ensures)
+    settled (a .t1) p d h (a .view) (a .block) (a .candidate) (a .bytes .now) (settling .result) _ (toZ-ofZ fits) _ _ (sym found ∙ sym (c .before .before .before .before .before .before .before .before .before .before .before .before .before .before .before .before .before .before .before .before .before .before .before .before .before .before .before .before .before .before .before .before .before .before .before .before .before .number .ensures) ∙ c .before .before .before .before .before .before .before .before .before .before .before .before .before .before .before .before .before .before .before .before .before .before .before .before .before .before .before .before .before .before .before .before .before .before .before .before .if1 .left) (settling .ensures)
 
 pub set-spec : {M : Type 1} → statement M
 set-spec =
     tie.close
     (tie.spec
+    (λ c κs. search needs)
     (λ c κs. search needs)
     (λ c κs. search needs)
     returns

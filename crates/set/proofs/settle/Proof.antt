@@ -8,17 +8,17 @@ use Rattle.set.proofs.settle.Statement.{statement}
 use Rattle.set.proofs.settle.Tie as tie
 
 most-total-requires : tie.Need-most-total-requires
-most-total-requires c κs = let fits = c .before .before .before .before .before .before .before .before .before .before .before .before .before .before .before .before .before .before .before .pre .1 .1 .1 in (fits .wide, fits .high)
+most-total-requires c κs = let fits = c .before .before .before .before .before .before .before .before .before .before .before .before .before .before .before .before .before .before .before .pre .1 .1 .1 .0 in (fits .wide, fits .high)
 
 judge-requires : tie.Need-judge-requires
 judge-requires c κs =
     let p = c .before .before .before .before .before .before .before .before .before .before .before .before .before .before .before .before .before .before .before .before .pre in
-    let small = block-small _ _ _ _ _ (c .before .trial-block .ensures) (p .1 .1 .1) (p .1 .0 .depths) (omega arith) in
+    let small = block-small _ _ _ _ _ (c .before .trial-candidate .ensures) (p .1 .1 .1 .0) (p .1 .0 .depths) (omega arith) in
     (small .0, (small .1, c .most-total .ensures .1))
 
 returns : tie.Need-returns
 returns c =
-    let sums = c .before .before .before .before .trial-block in
+    let sums = c .before .before .before .before .trial-candidate in
     record {
       old = sums .result .old;
       new = sums .result .new;
@@ -33,12 +33,13 @@ returns c =
 set-block-requires : tie.Need-set-block-requires
 set-block-requires c κs =
     let p = c .before .before .before .before .before .before .before .before .before .before .before .before .before .before .before .before .before .before .before .before .before .before .before .before .before .before .before .before .before .pre in
-    let fits = p .1 .1 .1 in
-    ((p .0 .0, (p .0 .1, (fits .wide, fits .high))), (p .1 .1 .0, set-requires (p .1 .0) fits))
+    let fits = p .1 .1 .1 .0 in
+    let asked = set-requires (p .1 .0) fits in
+    ((p .0 .0, (p .0 .1, (fits .wide, fits .high))), (p .1 .1 .0, (asked .0, (asked .1, p .1 .1 .1 .1))))
 
 returns-2 : tie.Need-returns-2
 returns-2 c =
-    let sums = c .before .before .before .before .before .before .before .before .before .before .before .before .before .before .before .before .before .before .before .before .before .before .trial-block in
+    let sums = c .before .before .before .before .before .before .before .before .before .before .before .before .before .before .before .before .before .before .before .before .before .before .trial-candidate in
     let accepted = sym (c .before .before .before .before .before .before .before .before .before .before .before .before .before .before .before .before .before .before .before .number .ensures) ∙ c .before .before .before .before .before .before .before .before .before .before .before .before .before .before .before .before .before .before .if1 .left in
     record {
       old = sums .result .old;

@@ -16,7 +16,7 @@ settle-requires c κs =
     let p = pictures (a .left .now) (a .right .now) (a .reference .now) in
     let d = depths (a .leftDepths .now) (a .rightDepths .now) in
     let h = heldOf (a .leftSamples .now) (a .leftFronts .now) (a .leftLimits .now) (a .leftMarks .now) (a .rightSamples .now) (a .rightFronts .now) (a .rightLimits .now) (a .rightMarks .now) (a .combined .now) in
-    own-requires s p d h (a .view) (a .block) (a .candidate .now) true (start .pre)
+    own-requires s p d h (a .view) (a .block) (a .candidate) (a .bytes .now) true (start .pre)
 
 returns : tie.Need-returns
 returns c =
@@ -26,7 +26,7 @@ returns c =
     let p = pictures (a .left .now) (a .right .now) (a .reference .now) in
     let d = depths (a .leftDepths .now) (a .rightDepths .now) in
     let h = heldOf (a .leftSamples .now) (a .leftFronts .now) (a .leftLimits .now) (a .leftMarks .now) (a .rightSamples .now) (a .rightFronts .now) (a .rightLimits .now) (a .rightMarks .now) (a .combined .now) in
-    settled-by s p d h (a .view) (a .block) (a .candidate .now) true (eq-eqb (a .view) 1 (c .before .before .before .before .before .before .before .before .before .before .before .before .before .before .before .before .before .before .before .before .before .if1 .taken)) (start .pre) _ _ _ _ (c .before .before .before .before .before .before .before .before .before .before .before .settle .ensures)
+    settled-by s p d h (a .view) (a .block) (a .candidate) (a .bytes .now) true (eq-eqb (a .view) 1 (c .before .before .before .before .before .before .before .before .before .before .before .before .before .before .before .before .before .before .before .before .before .if1 .taken)) (start .pre) _ _ _ _ (c .before .before .before .before .before .before .before .before .before .before .before .settle .ensures)
 
 settle-requires-2 : tie.Need-settle-requires-2
 settle-requires-2 c κs =
@@ -36,7 +36,7 @@ settle-requires-2 c κs =
     let p = pictures (a .left .now) (a .right .now) (a .reference .now) in
     let d = depths (a .leftDepths .now) (a .rightDepths .now) in
     let h = heldOf (a .leftSamples .now) (a .leftFronts .now) (a .leftLimits .now) (a .leftMarks .now) (a .rightSamples .now) (a .rightFronts .now) (a .rightLimits .now) (a .rightMarks .now) (a .combined .now) in
-    own-requires s p d h (a .view) (a .block) (a .candidate .now) false (start .pre)
+    own-requires s p d h (a .view) (a .block) (a .candidate) (a .bytes .now) false (start .pre)
 
 returns-2 : tie.Need-returns-2
 returns-2 c =
@@ -46,7 +46,7 @@ returns-2 c =
     let p = pictures (a .left .now) (a .right .now) (a .reference .now) in
     let d = depths (a .leftDepths .now) (a .rightDepths .now) in
     let h = heldOf (a .leftSamples .now) (a .leftFronts .now) (a .leftLimits .now) (a .leftMarks .now) (a .rightSamples .now) (a .rightFronts .now) (a .rightLimits .now) (a .rightMarks .now) (a .combined .now) in
-    settled-by s p d h (a .view) (a .block) (a .candidate .now) false (ne-eqb (a .view) 1 (c .before .before .before .before .before .before .before .before .before .before .before .before .before .before .before .before .before .before .before .before .before .if1 .left)) (start .pre) _ _ _ _ (c .before .before .before .before .before .before .before .before .before .before .before .settle2 .ensures)
+    settled-by s p d h (a .view) (a .block) (a .candidate) (a .bytes .now) false (ne-eqb (a .view) 1 (c .before .before .before .before .before .before .before .before .before .before .before .before .before .before .before .before .before .before .before .before .before .if1 .left)) (start .pre) _ _ _ _ (c .before .before .before .before .before .before .before .before .before .before .before .settle2 .ensures)
 
 pub settle-view-spec : {M : Type 1} → statement M
 settle-view-spec =

@@ -130,9 +130,9 @@ fn run(options: &Options) -> Result<(), String> {
 
     println!("Luphwezane: {}, {} × {}, blocks of {} × {}", input.name, input.w, input.h, encoder::SIDE, encoder::SIDE);
     println!();
-    print_line(["step", "trials", "blocks set", "change of total", "total", "PSNR"]);
+    print_line(["step", "trials", "one value", "line", "mask", "change of total", "total", "PSNR"]);
     let largest = input.largest;
-    print_line(["open", "", "", "", &thousands(session.total() as i64), &psnr(&session, largest)]);
+    print_line(["open", "", "", "", "", "", &thousands(session.total() as i64), &psnr(&session, largest)]);
     write_inputs(&options.out, &session, largest)?;
     write_outputs(&options.out, "before", &session, largest)?;
     for round in 1..=2 {
@@ -159,14 +159,15 @@ fn improve(session: &mut Session, view: View, largest: u16, round: u32) -> Resul
     let mut progress = Progress::new(&name);
     let pass = encoder::pass(session, view, largest, |done, all| progress.show(done, all)).map_err(|refusal| refusal.to_string())?;
     progress.clear();
-    let cells = [pass.trials as i64, pass.blocks as i64, pass.change, session.total() as i64].map(thousands);
-    print_line([&name, &cells[0], &cells[1], &cells[2], &cells[3], &psnr(session, largest)]);
+    let [trials, values, lines, masks] = [pass.trials, pass.values, pass.lines, pass.masks].map(|count| thousands(count as i64));
+    let (change, total) = (thousands(pass.change), thousands(session.total() as i64));
+    print_line([&name, &trials, &values, &lines, &masks, &change, &total, &psnr(session, largest)]);
     Ok(())
 }
 
-/// A line of the table.
-fn print_line([step, trials, blocks, change, total, psnr]: [&str; 6]) {
-    println!("{step:<14} {trials:>9}   {blocks:>10}   {change:>15}   {total:>13}   {psnr:>8}");
+/// A line of the table; between trials and change, how many blocks were set to a candidate of each kind.
+fn print_line([step, trials, values, lines, masks, change, total, psnr]: [&str; 8]) {
+    println!("{step:<14} {trials:>9}   {values:>9} {lines:>6} {masks:>6}   {change:>15}   {total:>13}   {psnr:>8}");
 }
 
 /// A line that is written over and over, on a terminal only.

@@ -2,16 +2,20 @@
 //! over planes that are there before the first round.
 
 use crate::held::Held;
+use crate::kinds::{Kind, Shape, Shapes, KINDS};
 use crate::redraw::Redraw;
 use crate::span::Span;
 use crate::{Random, Stage, Trials};
-use luphwezane::{lent, Block, Row, Session, Settings, View};
+use luphwezane::{lent, Block, Candidate, Row, Session, Settings, View};
 use std::hint::black_box;
 
-/// A kind of call; GET and SET of blocks of a side. The candidate of a refused GET has the wrong length.
+/// A kind of call; GET and SET of blocks of a side, with full blocks unless another kind is named. `Same` is GET of the full
+/// blocks that candidates of the kind fill. The candidate of a refused GET has the wrong length.
 #[derive(Clone, Copy)]
 pub enum Call {
     Get(usize),
+    Of(Kind, usize),
+    Same(Kind, usize),
     Refused,
     Set(usize),
     Open,
@@ -29,7 +33,25 @@ pub const BY_POSITION: [(&str, Call); 6] = [
 ];
 
 /// The calls of the library that are counted whole: they show what a GET costs whatever its block.
-pub const WHOLE: [(&str, Call); 2] = [("GET at 1 × 1", Call::Get(1)), ("GET refused", Call::Refused)];
+pub const WHOLE: [(&str, Call); 3] =
+    [("GET at 1 × 1", Call::Get(1)), ("GET of one value at 1 × 1", Call::Of(Kind::Value, 1)), ("GET refused", Call::Refused)];
+
+/// The sides of blocks at which the library's GETs are counted by kind.
+pub const SIDES: [usize; 3] = [4, 8, 64];
+
+/// GET of a kind at a side, and GET of the same full blocks.
+pub fn by_kind((name, kind): (&str, Kind), side: usize) -> [(String, Call); 2] {
+    let name = format!("GET of {name} at {side} × {side}");
+    let same = format!("{name} as a full block");
+    [(name, Call::Of(kind, side)), (same, Call::Same(kind, side))]
+}
+
+/// The call that has this name.
+fn named(name: &str) -> Option<Call> {
+    let mut plain = BY_POSITION.iter().chain(&WHOLE);
+    let mut kinds = SIDES.iter().flat_map(|&side| KINDS.map(|kind| by_kind(kind, side))).flatten();
+    plain.find(|(other, _)| *other == name).map(|&(_, call)| call).or_else(|| kinds.find(|(other, _)| other == name).map(|(_, call)| call))
+}
 
 pub const LIBRARY: &str = "the library";
 pub const PROGRAMS: [&str; 3] = [LIBRARY, "span renderer", "full redraw"];
@@ -41,8 +63,7 @@ pub fn stage() -> Stage {
 
 /// Makes rounds of a call and answers the sum of what they answer, which is the same for every program.
 pub fn make(call: &str, program: &str, rounds: usize) -> Option<i64> {
-    let (_, call) = *BY_POSITION.iter().chain(&WHOLE).find(|(name, _)| *name == call)?;
-    let stage = stage();
+    let (call, stage) = (named(call)?, stage());
     let Stage { settings, scene } = &stage;
     match PROGRAMS.iter().position(|name| *name == program)? {
         0 => Some(sum(Library::new(&stage), call, &stage, rounds)),
@@ -53,7 +74,8 @@ pub fn make(call: &str, program: &str, rounds: usize) -> Option<i64> {
 
 /// How many trials a round of GET or SET makes.
 pub fn trials(stage: &Stage, call: Call) -> usize {
-    blocks(stage, call).iter().map(|trials| trials.candidates.len()).sum()
+    let full: usize = blocks(stage, call).iter().map(|trials| trials.candidates.len()).sum();
+    full + shapes(stage, call).iter().map(|shapes| shapes.shapes.len()).sum::<usize>()
 }
 
 /// How many positions rounds of a call draw: those of the spans, of the picture for OPEN, of every row for RENDER.
@@ -70,6 +92,9 @@ pub fn positions(stage: &Stage, call: Call, rounds: usize) -> usize {
     match call {
         Call::Open => rounds * picture,
         Call::Render => rounds * 2 * picture,
+        Call::Of(..) | Call::Same(..) => {
+            rounds * each_shape(&shapes(stage, call), |view, block, shape| drawn(view, block, &shape.depths)) as usize
+        }
         _ => (0..rounds).map(|_| each(&blocks(stage, call), &mut drawn)).sum::<i64>() as usize,
     }
 }
@@ -80,7 +105,7 @@ fn blocks(stage: &Stage, call: Call) -> Vec<Trials> {
         Call::Get(64) => (64, 4, 2),
         Call::Get(side) | Call::Set(side) => (side, 400 / side, 4),
         Call::Refused => (1, 400, 4),
-        Call::Open | Call::Render => return Vec::new(),
+        Call::Open | Call::Render | Call::Of(..) | Call::Same(..) => return Vec::new(),
     };
     let random = &mut Random(1);
     let mut blocks: Vec<Trials> = (0..count).map(|_| stage.trials(side, candidates, 12, random)).collect();
@@ -88,6 +113,25 @@ fn blocks(stage: &Stage, call: Call) -> Vec<Trials> {
         blocks.iter_mut().for_each(|trials| trials.candidates.fill(Vec::new()));
     }
     blocks
+}
+
+/// The blocks of a round of GET by kind and their candidates.
+fn shapes(stage: &Stage, call: Call) -> Vec<Shapes> {
+    let (Call::Of(kind, side) | Call::Same(kind, side)) = call else { return Vec::new() };
+    let (count, candidates) = if side == 64 { (4, 2) } else { (400 / side, 4) };
+    let random = &mut Random(1);
+    (0..count).map(|_| stage.shapes(kind, side, candidates, random)).collect()
+}
+
+/// The sum of the answers for all candidates of a kind.
+fn each_shape(blocks: &[Shapes], mut call: impl FnMut(View, Block, &Shape) -> i64) -> i64 {
+    let mut sum = 0;
+    for Shapes { view, block, shapes } in blocks {
+        for shape in shapes {
+            sum += black_box(call(*view, *block, shape));
+        }
+    }
+    sum
 }
 
 /// The sum of the answers for all candidates.
@@ -102,10 +146,12 @@ fn each(blocks: &[Trials], mut call: impl FnMut(View, Block, &[u8]) -> i64) -> i
 }
 
 fn sum(mut program: impl Program, call: Call, stage: &Stage, rounds: usize) -> i64 {
-    let blocks = blocks(stage, call);
+    let (blocks, shapes) = (blocks(stage, call), shapes(stage, call));
     let mut sum = 0;
     for _ in 0..rounds {
         sum += match call {
+            Call::Of(..) => each_shape(&shapes, |view, block, shape| program.get_of(view, block, shape)),
+            Call::Same(..) => each_shape(&shapes, |view, block, shape| program.get(view, block, &shape.depths)),
             Call::Get(_) | Call::Refused => each(&blocks, |view, block, candidate| program.get(view, block, candidate)),
             Call::Set(_) => each(&blocks, |view, block, candidate| program.set(view, block, candidate)),
             Call::Open => black_box(program.open()),
@@ -129,6 +175,12 @@ fn rows(h: usize, mut call: impl FnMut(View, usize) -> i64) -> i64 {
 /// A program that makes the calls. OPEN answers the total, RENDER the row's first sample.
 trait Program {
     fn get(&mut self, view: View, block: Block, candidate: &[u8]) -> i64;
+
+    /// GET of a candidate of its kind; a program that has full blocks alone takes that.
+    fn get_of(&mut self, view: View, block: Block, shape: &Shape) -> i64 {
+        self.get(view, block, &shape.depths)
+    }
+
     fn set(&mut self, view: View, block: Block, candidate: &[u8]) -> i64;
     fn open(&mut self) -> i64;
     fn render(&mut self, view: View, y: usize) -> i64;
@@ -153,14 +205,18 @@ impl Library {
 impl Program for Library {
     /// A refused GET answers its number, below zero.
     fn get(&mut self, view: View, block: Block, candidate: &[u8]) -> i64 {
-        match self.session.get(view, block, candidate) {
+        match self.session.get(view, block, Candidate::Full(candidate)) {
             Ok(change) => change,
             Err(refusal) => -i64::from(refusal.number()),
         }
     }
 
+    fn get_of(&mut self, view: View, block: Block, shape: &Shape) -> i64 {
+        self.session.get(view, block, shape.candidate()).expect("GET accepts it")
+    }
+
     fn set(&mut self, view: View, block: Block, candidate: &[u8]) -> i64 {
-        self.session.set(view, block, candidate).expect("SET accepts it")
+        self.session.set(view, block, Candidate::Full(candidate)).expect("SET accepts it")
     }
 
     fn open(&mut self) -> i64 {

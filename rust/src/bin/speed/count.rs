@@ -2,13 +2,15 @@
 //!
 //! The program runs itself under valgrind, once with no round of a call and once with some; the difference is the rounds'.
 
-use crate::calls::{self, BY_POSITION, LIBRARY, PROGRAMS, WHOLE};
+use crate::calls::{self, BY_POSITION, LIBRARY, PROGRAMS, SIDES, WHOLE};
+use crate::kinds::KINDS;
+use crate::Stage;
 use std::io::ErrorKind;
 use std::process::Command;
 
 const ROUNDS: usize = 2;
 
-/// Prints the instructions a position of every call and program, and those of a whole GET.
+/// Prints the instructions a position of every call and program, those of GET by kind, and those of a whole GET.
 pub fn print() -> Result<(), String> {
     let stage = calls::stage();
     let positions = BY_POSITION.map(|(_, call)| calls::positions(&stage, call, ROUNDS));
@@ -20,14 +22,36 @@ pub fn print() -> Result<(), String> {
         }
         rows.push(row.join(" | "));
     }
-    let mut whole = [0.0; 2];
+    let mut whole = [0.0; WHOLE.len()];
     for (count, (name, call)) in whole.iter_mut().zip(WHOLE) {
         *count = rounds(name, LIBRARY)? / (ROUNDS * calls::trials(&stage, call)) as f64;
     }
     println!("| instructions a position | {} |", BY_POSITION.map(|(name, _)| name).join(" | "));
     println!("|---|{}", "---|".repeat(BY_POSITION.len()));
     rows.iter().for_each(|row| println!("| {row} |"));
-    println!("\nA whole GET of the library takes {:.0} instructions at 1 × 1 and {:.0} where it is refused with 7.", whole[0], whole[1]);
+    println!();
+    print_kinds(&stage)?;
+    let [full, value, refused] = whole.map(|count| format!("{count:.0}"));
+    println!(
+        "\nA whole GET of the library takes {full} instructions at 1 × 1, {value} for one value, and {refused} where it is refused with 7."
+    );
+    Ok(())
+}
+
+/// GET of candidates of each kind, and of the full blocks of the same depths.
+fn print_kinds(stage: &Stage) -> Result<(), String> {
+    let heads = KINDS.map(|(name, _)| format!("GET of {name} | the same full block"));
+    println!("| instructions a position | {} |", heads.join(" | "));
+    println!("|---|{}", "---|".repeat(2 * KINDS.len()));
+    for side in SIDES {
+        let mut row = vec![format!("{side} × {side}")];
+        for kind in KINDS {
+            for (name, call) in calls::by_kind(kind, side) {
+                row.push(format!("{:.1}", rounds(&name, LIBRARY)? / calls::positions(stage, call, ROUNDS) as f64));
+            }
+        }
+        println!("| {} |", row.join(" | "));
+    }
     Ok(())
 }
 

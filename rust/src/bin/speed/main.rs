@@ -1,6 +1,6 @@
 //! How fast the library is, as ratios measured in one run on one machine: its calls against a program that redraws the
-//! block's rows completely and against a span renderer written for speed in Rust, HOLES against counting by the mark and by
-//! the word. All three must answer alike.
+//! block's rows completely and against a span renderer written for speed in Rust, GET of one value, a line and a mask against
+//! GET of the same full block, HOLES against counting by the mark and by the word. All must answer alike.
 //!
 //! It prints the tables of docs/SPEED.md. `--short` measures little and is for seeing that the answers agree.
 //! `--instructions` counts instructions, which needs valgrind.
@@ -9,12 +9,14 @@ mod calls;
 mod count;
 mod held;
 mod holes;
+mod kinds;
 mod redraw;
 #[path = "../demo/scene.rs"]
 mod scene;
 mod span;
 
-use luphwezane::{Block, Pictures, Session, Settings, View};
+use kinds::{Shape, Shapes, KINDS};
+use luphwezane::{Block, Candidate, Pictures, Session, Settings, View};
 use redraw::Redraw;
 use scene::Scene;
 use span::Span;
@@ -56,6 +58,7 @@ fn times(effort: &Effort) {
     println!("Ratios of times, medians over {} blocks and {} rounds. Below 1 the library is faster.\n", effort.blocks, effort.rounds);
     let stage = Stage::new(1024, 768, 96);
     let [at_4, at_8, at_64] = get_and_set(&stage, effort);
+    by_kind(&stage, effort);
     let open = open(&stage, effort);
     let wide = widths(effort);
     disparities(effort);
@@ -197,7 +200,8 @@ fn get(stage: &Stage, blocks: &[Trials], rounds: usize) -> [f64; 2] {
     let mut redraw = Redraw::open(&stage.settings, &stage.scene);
     let mut times = Vec::new();
     for trials in (0..rounds).flat_map(|_| blocks) {
-        let (library, a) = trials.timed(1, |_, block, candidate| session.get(trials.view, block, candidate).expect("GET accepts it"));
+        let (library, a) =
+            trials.timed(1, |_, block, candidate| session.get(trials.view, block, Candidate::Full(candidate)).expect("GET accepts it"));
         let (rows, b) = trials.timed(10, |view, block, candidate| redraw.get(view, block, candidate));
         let (spans, c) = trials.timed(1, |view, block, candidate| span.get(view, block, candidate));
         assert!(a == b && a == c, "the three answer GET alike");
@@ -211,7 +215,8 @@ fn set(stage: &Stage, blocks: &[Trials], rounds: usize) -> [f64; 2] {
     let mut redraw = Redraw::open(&stage.settings, &stage.scene);
     let mut times = Vec::new();
     for trials in (0..rounds).flat_map(|_| blocks) {
-        let (library, a) = trials.timed(1, |_, block, candidate| session.set(trials.view, block, candidate).expect("SET accepts it"));
+        let (library, a) =
+            trials.timed(1, |_, block, candidate| session.set(trials.view, block, Candidate::Full(candidate)).expect("SET accepts it"));
         let (rows, b) = trials.timed(10, |view, block, candidate| redraw.set(view, block, candidate));
         let (spans, c) = trials.timed(1, |view, block, candidate| span.set(view, block, candidate));
         assert!(a == b && a == c, "the three answer SET alike");
@@ -220,6 +225,34 @@ fn set(stage: &Stage, blocks: &[Trials], rounds: usize) -> [f64; 2] {
     let (planes, total) = (session.planes(), session.total());
     assert!(span.held.is_same(&planes, total) && redraw.held.is_same(&planes, total), "the three end alike");
     ratios(&times)
+}
+
+/// GET of one value, of a line and of a mask, each against GET of the full block of the same depths. Every call is made once
+/// before it is timed, so that neither of the two finds the planes colder than the other.
+fn by_kind(stage: &Stage, effort: &Effort) {
+    let (session, span) = (stage.session(), Span::open(&stage.settings, &stage.scene));
+    println!("| GET / GET of the same full block | {} |", KINDS.map(|(name, _)| name).join(" | "));
+    println!("|---|---|---|---|");
+    for (side, candidates) in [(4, 20), (8, 20), (64, 4)] {
+        let ratios = KINDS.map(|(_, kind)| {
+            let random = &mut Random(1);
+            let blocks: Vec<Shapes> = (0..effort.blocks).map(|_| stage.shapes(kind, side, candidates, random)).collect();
+            let mut ratios = Vec::new();
+            for (k, Shapes { view, block, shapes }) in (0..effort.rounds).flat_map(|_| &blocks).enumerate() {
+                let get = |candidate: Candidate| session.get(*view, *block, candidate).expect("GET accepts it");
+                let by_kind = || timed(|| shapes.iter().map(|shape| get(shape.candidate())).collect::<Vec<i64>>());
+                let full = || timed(|| shapes.iter().map(|shape| get(Candidate::Full(&shape.depths))).collect::<Vec<i64>>());
+                let same: Vec<i64> = shapes.iter().map(|Shape { depths, .. }| span.get(*view as usize, *block, depths)).collect();
+                let (_, (_, warm)) = (by_kind(), full());
+                let ((a, first), (b, second)) = if k % 2 == 0 { (by_kind(), full()) } else { (full(), by_kind()) };
+                assert!(first == same && second == same && warm == same, "GET answers as for the full block");
+                ratios.push(if k % 2 == 0 { a / b } else { b / a });
+            }
+            format!("{:.2}", median(ratios))
+        });
+        println!("| {side} × {side} | {} |", ratios.join(" | "));
+    }
+    println!();
 }
 
 /// OPEN's ratios.
@@ -308,7 +341,9 @@ fn growth(sessions: &[Session], blocks: &[Trials], rounds: usize, base: usize) -
     let mut answers = vec![Vec::new(); sessions.len()];
     for round in 0..rounds {
         for trials in blocks {
-            let get = |session: &Session| trials.timed(1, |_, block, c| session.get(trials.view, block, c).expect("GET accepts it"));
+            let get = |session: &Session| {
+                trials.timed(1, |_, block, c| session.get(trials.view, block, Candidate::Full(c)).expect("GET accepts it"))
+            };
             let timed: Vec<(f64, Vec<i64>)> = sessions.iter().map(get).collect();
             let unit = timed[base].0;
             for (k, (time, changes)) in timed.into_iter().enumerate() {
@@ -326,7 +361,7 @@ fn growth(sessions: &[Session], blocks: &[Trials], rounds: usize, base: usize) -
 mod tests {
     use super::{Random, Redraw, Span, Stage};
     use crate::held::Held;
-    use luphwezane::lent;
+    use luphwezane::{lent, Candidate};
 
     /// Every sample of 1,023, of the pictures and of what is held, made higher.
     fn raise(held: &mut Held) {
@@ -352,13 +387,14 @@ mod tests {
             raise(&mut span.held);
             raise(&mut redraw.held);
             for candidate in &trials.candidates {
-                let change = session.get(view, block, candidate).expect("GET accepts it");
+                let change = session.get(view, block, Candidate::Full(candidate)).expect("GET accepts it");
                 assert_eq!(span.get(view as usize, block, candidate), change);
                 assert_eq!(redraw.get(view as usize, block, candidate), change);
                 let (pictures, planes) = span.held.lent();
+                let candidate = Candidate::Full(candidate);
                 assert_eq!(lent::get(session.settings(), &pictures, &planes.shared(), view as u32, block, candidate), Ok(change));
             }
-            let change = session.set(view, block, &trials.candidates[0]).expect("SET accepts it");
+            let change = session.set(view, block, Candidate::Full(&trials.candidates[0])).expect("SET accepts it");
             assert_eq!(span.set(view as usize, block, &trials.candidates[0]), change);
             assert_eq!(redraw.set(view as usize, block, &trials.candidates[0]), change);
         }

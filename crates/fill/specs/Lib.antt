@@ -1,0 +1,2 @@
+-- The rows of a candidate.
+pub mod Rows

@@ -1,0 +1,2 @@
+-- The candidate that a shape stands for.
+pub mod Shapes

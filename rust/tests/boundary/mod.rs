@@ -1,0 +1,113 @@
+//! GET and SET through the library's own symbols, declared here once more: a candidate of any kind, as a C program may pass it.
+#![allow(dead_code)] // each test program uses its own part
+
+use crate::random::Tried;
+use luphwezane::{Block, Pictures, Planes, PlanesMut, Point, Refusal, Settings};
+
+/// `luph_private_shape` of the C header.
+#[repr(C)]
+struct Shape {
+    kind: u32,
+    values: [u8; 2],
+    start: Point,
+    end: Point,
+}
+
+impl Shape {
+    fn of(candidate: &Tried) -> Shape {
+        Shape { kind: candidate.kind, values: candidate.values, start: candidate.start, end: candidate.end }
+    }
+}
+
+#[rustfmt::skip]
+extern "C" {
+    fn luph_raw_get(
+        w: u32, h: u32, left: *const u16, right: *const u16, share: u8, tolerance: u8, total: u64,
+        left_texture: *const u16, left_texture_len: usize, right_texture: *const u16, right_texture_len: usize,
+        reference: *const u16, reference_len: usize,
+        left_depths: *const u8, left_depths_len: usize, right_depths: *const u8, right_depths_len: usize,
+        left_samples: *const u16, left_samples_len: usize, left_fronts: *const u8, left_fronts_len: usize,
+        left_limits: *const i16, left_limits_len: usize, left_marks: *const u8, left_marks_len: usize,
+        right_samples: *const u16, right_samples_len: usize, right_fronts: *const u8, right_fronts_len: usize,
+        right_limits: *const i16, right_limits_len: usize, right_marks: *const u8, right_marks_len: usize,
+        combined: *const u16, combined_len: usize,
+        view: u32, block: Block, shape: Shape, bytes: *const u8, bytes_len: usize,
+        change: *mut i64,
+    ) -> u32;
+    fn luph_raw_set(
+        settings: Settings,
+        left_texture: *const u16, left_texture_len: usize, right_texture: *const u16, right_texture_len: usize,
+        reference: *const u16, reference_len: usize,
+        left_depths: *mut u8, left_depths_len: usize, right_depths: *mut u8, right_depths_len: usize,
+        left_samples: *mut u16, left_samples_len: usize, left_fronts: *mut u8, left_fronts_len: usize,
+        left_limits: *mut i16, left_limits_len: usize, left_marks: *mut u8, left_marks_len: usize,
+        right_samples: *mut u16, right_samples_len: usize, right_fronts: *mut u8, right_fronts_len: usize,
+        right_limits: *mut i16, right_limits_len: usize, right_marks: *mut u8, right_marks_len: usize,
+        combined: *mut u16, combined_len: usize,
+        view: u32, block: Block, shape: Shape, bytes: *const u8, bytes_len: usize,
+        change: *mut i64, total: *mut u64,
+    ) -> u32;
+}
+
+/// What a refused call must leave in its answers.
+const UNTOUCHED: (i64, u64) = (-987_654_321, 0x1234_5678_9abc_def0);
+
+fn refused(number: u32) -> Refusal {
+    Refusal::from_number(number).unwrap_or_else(|| panic!("{number} is no refusal's number"))
+}
+
+#[rustfmt::skip]
+pub fn get(
+    settings: &Settings, pictures: &Pictures, planes: &Planes, view: u32, block: Block, candidate: &Tried,
+) -> Result<i64, Refusal> {
+    let Pictures { textures: [lt, rt], reference } = pictures;
+    let Planes { depths: [ld, rd], samples: [ls, rs], fronts: [lf, rf], limits: [ll, rl], marks: [lm, rm], combined } = planes;
+    let (mut change, bytes) = (UNTOUCHED.0, candidate.bytes.entries());
+    // SAFETY: pointers and lengths are those of slices that live through the call, and nothing but `change` is written.
+    let number = unsafe {
+        luph_raw_get(
+            settings.w, settings.h, settings.left.as_ptr(), settings.right.as_ptr(), settings.share, settings.tolerance,
+            settings.total, lt.as_ptr(), lt.len(), rt.as_ptr(), rt.len(), reference.as_ptr(), reference.len(),
+            ld.as_ptr(), ld.len(), rd.as_ptr(), rd.len(),
+            ls.as_ptr(), ls.len(), lf.as_ptr(), lf.len(), ll.as_ptr(), ll.len(), lm.as_ptr(), lm.len(),
+            rs.as_ptr(), rs.len(), rf.as_ptr(), rf.len(), rl.as_ptr(), rl.len(), rm.as_ptr(), rm.len(),
+            combined.as_ptr(), combined.len(), view, block, Shape::of(candidate), bytes.as_ptr(), bytes.len(), &mut change,
+        )
+    };
+    match number {
+        0 => Ok(change),
+        _ => {
+            assert_eq!(change, UNTOUCHED.0, "a refused GET answered");
+            Err(refused(number))
+        }
+    }
+}
+
+#[rustfmt::skip]
+pub fn set(
+    settings: &mut Settings, pictures: &Pictures, planes: &mut PlanesMut, view: u32, block: Block, candidate: &Tried,
+) -> Result<i64, Refusal> {
+    let Pictures { textures: [lt, rt], reference } = pictures;
+    let PlanesMut { depths: [ld, rd], samples: [ls, rs], fronts: [lf, rf], limits: [ll, rl], marks: [lm, rm], combined } = planes;
+    let ((mut change, mut total), bytes) = (UNTOUCHED, candidate.bytes.entries());
+    // SAFETY: pointers and lengths are those of slices that live through the call, and those lent for writing overlap no other.
+    let number = unsafe {
+        luph_raw_set(
+            *settings, lt.as_ptr(), lt.len(), rt.as_ptr(), rt.len(), reference.as_ptr(), reference.len(),
+            ld.as_mut_ptr(), ld.len(), rd.as_mut_ptr(), rd.len(),
+            ls.as_mut_ptr(), ls.len(), lf.as_mut_ptr(), lf.len(), ll.as_mut_ptr(), ll.len(), lm.as_mut_ptr(), lm.len(),
+            rs.as_mut_ptr(), rs.len(), rf.as_mut_ptr(), rf.len(), rl.as_mut_ptr(), rl.len(), rm.as_mut_ptr(), rm.len(),
+            combined.as_mut_ptr(), combined.len(), view, block, Shape::of(candidate), bytes.as_ptr(), bytes.len(), &mut change, &mut total,
+        )
+    };
+    match number {
+        0 => {
+            settings.total = total;
+            Ok(change)
+        }
+        _ => {
+            assert_eq!((change, total), UNTOUCHED, "a refused SET answered");
+            Err(refused(number))
+        }
+    }
+}
