@@ -75,7 +75,8 @@ int main(int count, char **words) {
     }
     p.reference = (luph_picture){reference, AREA};
     q.combined = (luph_samples){combined, AREA};
-    if (luph_open(&settings, &p, &q) != LUPH_ACCEPTED) return 1;
+    uint32_t word;
+    if (luph_open(&settings, &p, &q, (luph_journal){&word, 1}) != LUPH_ACCEPTED) return 1;
 
     int64_t change = 0;
     for (int i = 0; i < GETS; i++) {

@@ -1,6 +1,7 @@
 /*
  * The small session of document 01 (cases k, l and m), reports, refused calls, drawn rows (case g and card 7's), samples of ten
- * bits and above, and candidates of every kind, from C. Its output is compared with session.out. It compiles as C99 and as C++.
+ * bits and above, candidates of every kind, and SETs taken back, from C. Its output is compared with session.out. It compiles as
+ * C99 and as C++.
  */
 #include <stdio.h>
 #include <string.h>
@@ -14,6 +15,9 @@ static const uint8_t depths[W] = {10, 20, 30, 40};
 static uint16_t sample[2][W], combined[W];
 static uint8_t depth[2][W], front[2][W], marks[2][1];
 static int16_t limit[2][W];
+
+/* One journal for the sessions of which nothing is taken back: every SET finds it empty. */
+static uint32_t words[1 + 6 + 15];
 
 static luph_in in(const uint8_t *data, size_t len) {
     luph_in x;
@@ -43,6 +47,19 @@ static luph_samples samples(uint16_t *data, size_t len) {
     return x;
 }
 
+static luph_journal journal(uint32_t *data, size_t len) {
+    luph_journal x;
+    x.data = data;
+    x.len = len;
+    return x;
+}
+
+static luph_journal kept(void) {
+    const luph_journal x = journal(words, sizeof words / sizeof words[0]);
+    luph_keep(x);
+    return x;
+}
+
 static luph_planes planes(void) {
     luph_planes q;
     for (int v = 0; v < 2; v++) {
@@ -62,7 +79,7 @@ static void print_samples(const char *name, const uint16_t *row) {
 }
 
 static void print_open(luph_settings *s, const luph_pictures *p, const luph_planes *q) {
-    const int number = luph_open(s, p, q);
+    const int number = luph_open(s, p, q, kept());
     printf("open: %d, total %lu\n", number, (unsigned long)s->total);
 }
 
@@ -89,7 +106,7 @@ static void print_trial(const luph_settings *s, const luph_pictures *p, const lu
 static void print_set(luph_settings *s, const luph_pictures *p, const luph_planes *q, uint32_t column, uint8_t d) {
     const luph_block b = {column, 0, 1, 1};
     int64_t change = 999;
-    const int number = luph_set(s, p, q, 0, b, luph_full(in(&d, 1)), &change);
+    const int number = luph_set(s, p, q, kept(), 0, b, luph_full(in(&d, 1)), &change);
     printf("set column %lu depth %d: %d, change %ld, total %lu\n", (unsigned long)column, d, number, (long)change, (unsigned long)s->total);
 }
 
@@ -131,14 +148,14 @@ static void refusals(luph_settings *s, const luph_pictures *p, const luph_planes
     print_set(s, p, q, 4, 4);
     number = luph_get(s, p, q, 2, whole, luph_full(in(depths, W)), &change);
     printf("get of view 2: %d, change %ld\n", number, (long)change);
-    number = luph_set(s, p, q, 1, whole, luph_full(in(NULL, 0)), &change);
+    number = luph_set(s, p, q, kept(), 1, whole, luph_full(in(NULL, 0)), &change);
     printf("set of no candidate: %d, change %ld\n", number, (long)change);
     none.combined = samples(NULL, 0);
     number = luph_get(s, p, &none, 0, whole, luph_full(in(depths, W)), &change);
     printf("get without a combined picture: %d, change %ld\n", number, (long)change);
     other.w = 4097;
     other.total = 77;
-    number = luph_open(&other, p, q);
+    number = luph_open(&other, p, q, kept());
     printf("open of 4,097 columns: %d, total %lu\n", number, (unsigned long)other.total);
     other.w = W;
     other.share = 65;
@@ -167,19 +184,21 @@ static void drop(luph_pictures *p, luph_planes *q, int slice) {
 /* A NULL counts as length 0: every call refuses it with 2, as a plane without its exact length. */
 static void nulls(luph_settings *s, const luph_pictures *p, const luph_planes *q) {
     const luph_block whole = {0, 0, W, 1};
-    int refused[4] = {0, 0, 0, 0};
+    int refused[5] = {0, 0, 0, 0, 0};
     for (int slice = 0; slice < 14; slice++) {
         luph_pictures some = *p;
         luph_planes held = *q;
         luph_report r;
         int64_t change;
         drop(&some, &held, slice);
-        refused[0] += luph_open(s, &some, &held) == LUPH_REFUSED_PLANE;
+        refused[0] += luph_open(s, &some, &held, kept()) == LUPH_REFUSED_PLANE;
         refused[1] += luph_get(s, &some, &held, 0, whole, luph_full(in(depths, W)), &change) == LUPH_REFUSED_PLANE;
-        refused[2] += luph_set(s, &some, &held, 0, whole, luph_flat(3), &change) == LUPH_REFUSED_PLANE;
-        refused[3] += luph_check(s, &some, &held, &r) == LUPH_REFUSED_PLANE;
+        refused[2] += luph_set(s, &some, &held, kept(), 0, whole, luph_flat(3), &change) == LUPH_REFUSED_PLANE;
+        refused[3] += luph_take_back(s, &some, &held, kept(), &change) == LUPH_REFUSED_PLANE;
+        refused[4] += luph_check(s, &some, &held, &r) == LUPH_REFUSED_PLANE;
     }
-    printf("one of 14 slices NULL, refused: open %d, get %d, set %d, check %d\n", refused[0], refused[1], refused[2], refused[3]);
+    printf("one of 14 slices NULL, refused: open %d, get %d, set %d, take back %d, check %d\n", refused[0], refused[1], refused[2],
+        refused[3], refused[4]);
     print_check(s, p, q);
 }
 
@@ -237,7 +256,7 @@ static uint8_t area_depth[2][AREA];
 static void print_candidate(const char *name, luph_settings *s, const luph_pictures *p, const luph_planes *q, luph_block b,
     luph_candidate candidate) {
     int64_t tried = 999, change = 999;
-    const int get = luph_get(s, p, q, 0, b, candidate, &tried), set = luph_set(s, p, q, 0, b, candidate, &change);
+    const int get = luph_get(s, p, q, 0, b, candidate, &tried), set = luph_set(s, p, q, kept(), 0, b, candidate, &change);
     printf("%s: get %d, change %ld; set %d, change %ld, total %lu", name, get, (long)tried, set, (long)change, (unsigned long)s->total);
     for (int i = 0; set == LUPH_ACCEPTED && i < AREA; i++) printf(i == 0 ? "; %d" : i % COLUMNS == 0 ? ", %d" : " %d", area_depth[0][i]);
     printf("\n");
@@ -329,6 +348,86 @@ static void candidates(luph_settings s) {
     print_check(&s, &p, &q);
 }
 
+/* The words of a journal up to its last. */
+static void print_words(luph_journal j) {
+    printf("words");
+    for (size_t i = 0; i < j.len; i++) printf(" %lu", (unsigned long)j.data[i]);
+    printf("\n");
+}
+
+/* SET of one value in a block of a view of the row, and TAKE BACK, with a journal. */
+static void print_saved(luph_settings *s, const luph_pictures *p, const luph_planes *q, luph_journal j, uint32_t view, luph_block b,
+    uint8_t d) {
+    int64_t change = 999;
+    const int number = luph_set(s, p, q, j, view, b, luph_flat(d), &change);
+    printf("set depth %d: %d, change %ld, total %lu\n", d, number, (long)change, (unsigned long)s->total);
+}
+
+static void print_back(luph_settings *s, const luph_pictures *p, const luph_planes *q, luph_journal j) {
+    int64_t change = 999;
+    const int number = luph_take_back(s, p, q, j, &change);
+    printf("take back: %d, change %ld, total %lu; left %d %d %d %d, right %d %d %d %d\n", number, (long)change, (unsigned long)s->total,
+        depth[0][0], depth[0][1], depth[0][2], depth[0][3], depth[1][0], depth[1][1], depth[1][2], depth[1][3]);
+}
+
+/* Two SETs with a journal that has room for no third, taken back; and one that is kept. */
+static void taken_back(luph_settings *s, const luph_pictures *p, const luph_planes *q, luph_journal j) {
+    const luph_block two = {1, 0, 2, 1}, last = {3, 0, 1, 1};
+    for (size_t i = 0; i < j.len; i++) j.data[i] = 7777;
+    memset(depth, 0, sizeof depth);
+    printf("open: %d\n", luph_open(s, p, q, j));
+    print_words(j);
+    print_back(s, p, q, j); /* 12 */
+    print_saved(s, p, q, j, 0, two, 5);
+    print_saved(s, p, q, j, 1, last, 3);
+    print_words(j);
+    print_saved(s, p, q, j, 1, last, 2); /* 11 */
+    print_back(s, p, q, j);
+    print_back(s, p, q, j);
+    print_back(s, p, q, j); /* 12 */
+    print_words(j);
+    print_saved(s, p, q, j, 0, two, 4);
+    luph_keep(j);
+    print_back(s, p, q, j); /* 12: it is kept */
+    print_check(s, p, q);
+}
+
+/* 13: journals of no words, and a record that cannot be right. */
+static void wrong_journals(luph_settings *s, const luph_pictures *p, const luph_planes *q, luph_journal j) {
+    static const struct {
+        const char *name;
+        size_t word;
+        uint32_t value;
+    } damages[] = {{"an index that stands still", 1, 1}, {"an index past the end", 0, 4294967295u}, {"view 2", 2, 2},
+        {"column 3", 3, 3}, {"row 1", 4, 1}, {"width 0", 5, 0}, {"height 2", 6, 2}, {"depth 256", 8, 256}, {"no damage", 8, 255}};
+    const luph_block two = {1, 0, 2, 1}, last = {3, 0, 1, 1};
+    const luph_journal none = journal(j.data, 0), null = journal(NULL, j.len);
+    int64_t change = 999;
+    printf("no words: open %d, set %d, take back %d\n", luph_open(s, p, q, none), luph_set(s, p, q, none, 0, two, luph_flat(1), &change),
+        luph_take_back(s, p, q, none, &change));
+    printf("NULL: open %d, set %d, take back %d\n", luph_open(s, p, q, null), luph_set(s, p, q, null, 0, two, luph_flat(1), &change),
+        luph_take_back(s, p, q, null, &change));
+    luph_keep(null);
+    printf("change %ld\n", (long)change);
+    for (size_t i = 0; i < sizeof damages / sizeof damages[0]; i++) {
+        int set, back;
+        luph_keep(j);
+        if (luph_set(s, p, q, j, 0, two, luph_flat(9), &change) != LUPH_ACCEPTED) printf("not set\n");
+        j.data[damages[i].word] = damages[i].value;
+        set = luph_set(s, p, q, j, 1, last, luph_flat(1), &change);
+        back = luph_take_back(s, p, q, j, &change);
+        printf("%s: set %d, take back %d\n", damages[i].name, set, back);
+    }
+    print_check(s, p, q);
+}
+
+static void journals(luph_settings *s, const luph_pictures *p, const luph_planes *q) {
+    static uint32_t room[1 + 8 + 7 + 1];
+    const luph_journal j = journal(room, sizeof room / sizeof room[0]);
+    taken_back(s, p, q, j);
+    wrong_journals(s, p, q, j);
+}
+
 int main(void) {
     luph_settings s;
     luph_pictures p;
@@ -346,5 +445,6 @@ int main(void) {
     rows(&s);
     ten_bits(&s, &q);
     candidates(s);
+    journals(&s, &p, &q);
     return 0;
 }

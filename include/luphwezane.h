@@ -8,8 +8,9 @@
  * A session is a luph_settings record, the pictures it is about and the planes that the caller keeps for it.
  * luph_open fills the held planes. luph_get answers how the total would change if a block of depths were
  * replaced, and writes nothing; luph_set replaces it. What takes the block's place is a candidate: a full block of
- * depths, one value, or two regions with a value each, parted by a line or by a mask. Between these calls the caller
- * keeps pictures, planes and settings as the last call left them.
+ * depths, one value, or two regions with a value each, parted by a line or by a mask. luph_set saves the depths that
+ * were there in a journal, and luph_take_back writes the newest saved ones back. Between these calls the caller keeps
+ * pictures, planes and settings as the last call left them.
  *
  * Lengths, in entries, for w columns and h rows, all in row order:
  *
@@ -21,19 +22,46 @@
  *
  * Samples have ten bits, 0 to 1,023, in entries of 16: the textures, the reference, the drawn samples and the
  * combined picture. luph_open refuses a texture or reference with a higher entry. The other calls read a higher
- * entry of a texture or reference as 1,023, and luph_get and luph_set read a higher drawn or combined sample so
- * too; luph_check compares drawn and combined samples as they are, so that a higher one is a difference.
+ * entry of a texture or reference as 1,023, and luph_get, luph_set and luph_take_back read a higher drawn or combined
+ * sample so too; luph_check compares drawn and combined samples as they are, so that a higher one is a difference.
+ *
+ * The journal is words of 32 bits, as many as the caller likes, and the caller's alone: the library keeps no copy.
+ * Word 0 is the index of the newest record, 0 for none. A record is 6 words and one for each depth of its block; at
+ * index i it has
+ *
+ *     word i          the index of the record before, 0 for none
+ *     word i + 1      view
+ *     word i + 2      first column
+ *     word i + 3      first row
+ *     word i + 4      width
+ *     word i + 5      height
+ *     word i + 6 ...  the depths that were there: width * height, in row order, one a word
+ *
+ * luph_open empties the journal: it writes 0 to word 0. An accepted luph_set puts its record directly after the newest
+ * one, or after word 0 where there is none. luph_take_back gives word 0 the index of the record before, and the next
+ * luph_set uses the space again. So a journal for n SETs of blocks of width * height needs 1 + n * (6 + width * height)
+ * words. luph_open and luph_take_back write word 0 alone, luph_set word 0 and its record, luph_get has no journal.
+ *
+ * Every luph_set and luph_take_back examines the whole chain of records before it relies on it: a call takes time for
+ * each saved depth. A caller that no longer needs to take back what it set calls luph_keep, which empties the journal and
+ * leaves the session as it is; one with a long list of SETs should, for example when a coding unit is decided.
+ *
+ * Where luph_open and every luph_set and luph_take_back of a session are passed one journal that nothing else writes,
+ * no other session either, luph_take_back restores depths, held planes and total to what they were before the newest
+ * SET that still stands, and answers its change negated. It is refused with 12 exactly where none stands, and 13 never
+ * occurs. All of this holds again from a luph_keep on, for the SETs after it. With another journal luph_take_back writes
+ * what the newest record says, whoever wrote it.
  *
  * Every call answers 0 (LUPH_ACCEPTED) or the number of the first refusal that applies, in the order given with
- * the call. A refused call writes nothing: no plane, no settings, no answer.
+ * the call. A refused call writes nothing: no plane, no settings, no word of the journal, no answer.
  *
- * Planes must not overlap: a plane that is lent for writing shares no byte with any other argument of the call, nor
- * with the bytes of a candidate. Lengths and numbers may be anything. A `data` of NULL counts as length 0. Pointers to
+ * Planes and journal must not overlap: one that is lent for writing shares no byte with any other argument of the call,
+ * nor with the bytes of a candidate. Lengths and numbers may be anything. A `data` of NULL counts as length 0. Pointers to
  * structs and to answers must be valid, and so must a slice's other than NULL; only the bytes of a candidate whose kind
  * has none may be anything.
  *
- * The library keeps no state of its own and allocates nothing. Calls on different sessions may run at the same
- * time, and so may calls that only read (luph_get, luph_check, luph_holes) on one session.
+ * The library keeps no state of its own and allocates nothing. Calls on different sessions with different journals may
+ * run at the same time, and so may calls that only read (luph_get, luph_check, luph_holes) on one session.
  */
 #ifndef LUPHWEZANE_H
 #define LUPHWEZANE_H
@@ -44,17 +72,20 @@
 /* What a call answers. */
 enum {
     LUPH_ACCEPTED = 0,
-    LUPH_REFUSED_SIZE = 1,      /* w or h outside 1 to 4,096 */
-    LUPH_REFUSED_PLANE = 2,     /* a plane without its exact length */
-    LUPH_REFUSED_TABLE = 3,     /* an entry of either table above 1,023 */
-    LUPH_REFUSED_SHARE = 4,     /* share above 64 */
-    LUPH_REFUSED_BOUNDS = 5,    /* a block of zero width or height, or reaching past an edge */
-    LUPH_REFUSED_VIEW = 6,      /* a view neither 0 nor 1 */
-    LUPH_REFUSED_CANDIDATE = 7, /* a full block without width * height depths, or a candidate of an unknown kind */
-    LUPH_REFUSED_TOTAL = 8,     /* total plus change below 0 or above 1,046,529 * w * h; never in a session that is kept as above */
-    LUPH_REFUSED_LINE = 14,     /* a line's point inside the block or outside it, or two points on one side */
-    LUPH_REFUSED_MASK = 15,     /* a mask without (width * height + 7) / 8 bytes */
-    LUPH_REFUSED_SAMPLE = 21    /* a texture or reference entry above 1,023 */
+    LUPH_REFUSED_SIZE = 1,                  /* w or h outside 1 to 4,096 */
+    LUPH_REFUSED_PLANE = 2,                 /* a plane without its exact length */
+    LUPH_REFUSED_TABLE = 3,                 /* an entry of either table above 1,023 */
+    LUPH_REFUSED_SHARE = 4,                 /* share above 64 */
+    LUPH_REFUSED_BOUNDS = 5,                /* a block of zero width or height, or reaching past an edge */
+    LUPH_REFUSED_VIEW = 6,                  /* a view neither 0 nor 1 */
+    LUPH_REFUSED_CANDIDATE = 7,             /* a full block without width * height depths, or a candidate of an unknown kind */
+    LUPH_REFUSED_TOTAL = 8,                 /* total plus change below 0 or above 1,046,529 * w * h; never in a session that is kept as above */
+    LUPH_REFUSED_JOURNAL_FULL = 11,         /* the words beyond the newest record cannot hold the new one, or its index passes 32 bits */
+    LUPH_REFUSED_NOTHING_TO_TAKE_BACK = 12, /* the journal has no record */
+    LUPH_REFUSED_JOURNAL = 13,              /* a journal of no words; and, but for luph_open, one whose chain of records cannot be right */
+    LUPH_REFUSED_LINE = 14,                 /* a line's point inside the block or outside it, or two points on one side */
+    LUPH_REFUSED_MASK = 15,                 /* a mask without (width * height + 7) / 8 bytes */
+    LUPH_REFUSED_SAMPLE = 21                /* a texture or reference entry above 1,023 */
 };
 
 /* The settings of a session. */
@@ -65,7 +96,7 @@ typedef struct luph_settings {
     uint16_t right[256]; /* the same for the right view */
     uint8_t share;       /* the right view's part where both views show a position, in 64ths, 0 to 64 */
     uint8_t tolerance;   /* how far front depths may differ for both views to be mixed */
-    uint64_t total;      /* the sum of squared errors of the combined picture; luph_open and luph_set write it */
+    uint64_t total;      /* the sum of squared errors of the combined picture; luph_open, luph_set and luph_take_back write it */
 } luph_settings;
 
 /* Bytes that a call only reads: depths, a candidate's bytes and marks. */
@@ -98,13 +129,19 @@ typedef struct luph_limits {
     size_t len;    /* the number of entries */
 } luph_limits;
 
+/* A journal, in which luph_set saves what luph_take_back writes back. A `data` of NULL counts as no words. */
+typedef struct luph_journal {
+    uint32_t *data; /* word 0 */
+    size_t len;     /* the number of words */
+} luph_journal;
+
 /* The pictures of a session, which no call writes. View 0 is left, view 1 right. */
 typedef struct luph_pictures {
     luph_picture texture[2]; /* each view's texture */
     luph_picture reference;  /* what the combined picture is measured against */
 } luph_pictures;
 
-/* The planes of a session. Depths are given to luph_open and written by luph_set; the others are held. */
+/* The planes of a session. Depths are given to luph_open and written by luph_set and luph_take_back; the others are held. */
 typedef struct luph_planes {
     luph_out depth[2];      /* each view's depths, larger is nearer */
     luph_samples sample[2]; /* each view's drawn samples */
@@ -199,6 +236,7 @@ typedef struct luph_private_shape {
 #define LUPH_RAW_OUT_SAMPLES(name) uint16_t *name, size_t name##_len
 #define LUPH_RAW_IN_LIMITS(name) const int16_t *name, size_t name##_len
 #define LUPH_RAW_OUT_LIMITS(name) int16_t *name, size_t name##_len
+#define LUPH_RAW_JOURNAL uint32_t *journal, size_t journal_len
 #define LUPH_RAW_PICTURES LUPH_RAW_IN_SAMPLES(left_texture), LUPH_RAW_IN_SAMPLES(right_texture), LUPH_RAW_IN_SAMPLES(reference)
 #define LUPH_RAW_DEPTHS(bytes) bytes(left_depths), bytes(right_depths)
 #define LUPH_RAW_HELD(bytes, samples, limits)                                            \
@@ -210,13 +248,15 @@ typedef struct luph_private_shape {
 uint32_t luph_raw_render(luph_settings settings, uint32_t view, LUPH_RAW_IN_SAMPLES(texture), LUPH_RAW_IN(depths),
     LUPH_RAW_OUT_SAMPLES(samples), LUPH_RAW_OUT(marks), LUPH_RAW_OUT(fronts));
 uint32_t luph_raw_open(luph_settings settings, LUPH_RAW_PICTURES, LUPH_RAW_DEPTHS(LUPH_RAW_IN),
-    LUPH_RAW_HELD_OUT, uint64_t *total);
+    LUPH_RAW_HELD_OUT, LUPH_RAW_JOURNAL, uint64_t *total);
 uint32_t luph_raw_get(uint32_t w, uint32_t h, const uint16_t *left, const uint16_t *right, uint8_t share, uint8_t tolerance,
     uint64_t total, LUPH_RAW_PICTURES, LUPH_RAW_DEPTHS(LUPH_RAW_IN), LUPH_RAW_HELD_IN,
     uint32_t view, luph_block block, luph_private_shape shape, LUPH_RAW_IN(bytes), int64_t *change);
 uint32_t luph_raw_set(luph_settings settings, LUPH_RAW_PICTURES, LUPH_RAW_DEPTHS(LUPH_RAW_OUT),
-    LUPH_RAW_HELD_OUT, uint32_t view, luph_block block, luph_private_shape shape, LUPH_RAW_IN(bytes), int64_t *change,
-    uint64_t *total);
+    LUPH_RAW_HELD_OUT, LUPH_RAW_JOURNAL, uint32_t view, luph_block block, luph_private_shape shape, LUPH_RAW_IN(bytes),
+    int64_t *change, uint64_t *total);
+uint32_t luph_raw_take_back(luph_settings settings, LUPH_RAW_PICTURES, LUPH_RAW_DEPTHS(LUPH_RAW_OUT),
+    LUPH_RAW_HELD_OUT, LUPH_RAW_JOURNAL, int64_t *change, uint64_t *total);
 uint32_t luph_raw_check(luph_settings settings, LUPH_RAW_PICTURES, LUPH_RAW_DEPTHS(LUPH_RAW_IN),
     LUPH_RAW_HELD_IN, uint32_t *kind, uint32_t *row, uint32_t *column);
 uint32_t luph_raw_holes(luph_settings settings, uint32_t view, LUPH_RAW_IN(left_marks), LUPH_RAW_IN(right_marks), uint64_t *count);
@@ -227,6 +267,7 @@ uint32_t luph_raw_holes(luph_settings settings, uint32_t view, LUPH_RAW_IN(left_
 #undef LUPH_RAW_OUT_SAMPLES
 #undef LUPH_RAW_IN_LIMITS
 #undef LUPH_RAW_OUT_LIMITS
+#undef LUPH_RAW_JOURNAL
 #undef LUPH_RAW_PICTURES
 #undef LUPH_RAW_DEPTHS
 #undef LUPH_RAW_HELD
@@ -276,6 +317,15 @@ static inline luph_samples luph_private_samples(luph_samples x) {
 
 static inline luph_limits luph_private_limits(luph_limits x) {
     static int16_t none = 0;
+    if (x.data == NULL) {
+        x.data = &none;
+        x.len = 0;
+    }
+    return x;
+}
+
+static inline luph_journal luph_private_journal(luph_journal x) {
+    static uint32_t none = 0;
     if (x.data == NULL) {
         x.data = &none;
         x.len = 0;
@@ -367,19 +417,20 @@ static inline int luph_render(const luph_settings *s, uint32_t view, luph_pictur
 }
 
 /*
- * OPEN: draws both views from pictures and depths into the held planes and writes the total to s->total; the
- * total passed in is ignored. Depths are only read. Refuses 1, 2, 3, 4, then 21: a texture or reference entry above
- * 1,023.
+ * OPEN: draws both views from pictures and depths into the held planes, writes the total to s->total and empties the
+ * journal; the total passed in is ignored, and so is what the journal holds. Depths are only read. Refuses 1, 2, 3, 4,
+ * 13 (a journal of no words), then 21: a texture or reference entry above 1,023.
  */
-static inline int luph_open(luph_settings *s, const luph_pictures *p, const luph_planes *q) {
+static inline int luph_open(luph_settings *s, const luph_pictures *p, const luph_planes *q, luph_journal journal) {
     luph_private_copy copy;
     if (luph_private_has_null(p, q)) {
         luph_private_fill(&copy, p, q);
         p = &copy.pictures;
         q = &copy.planes;
     }
+    journal = luph_private_journal(journal);
     uint64_t total = 0;
-    const uint32_t number = luph_raw_open(*s, LUPH_RAW_ALL(p, q), &total);
+    const uint32_t number = luph_raw_open(*s, LUPH_RAW_ALL(p, q), LUPH_RAW_SLICE(journal), &total);
     if (number == 0) s->total = total;
     return (int)number;
 }
@@ -407,27 +458,66 @@ static inline int luph_get(const luph_settings *s, const luph_pictures *p, const
 }
 
 /*
- * SET: writes the candidate into the block, brings the held planes up to date, and answers the change in *change
- * and the new total in s->total. Reads samples and refuses as GET does, in that order.
+ * SET: writes the candidate into the block, brings the held planes up to date, saves the depths that were there in the
+ * journal, in 6 + width * height words, and answers the change in *change and the new total in s->total. Reads samples
+ * and refuses as GET does, in that order, then 13 and 11.
+ *
+ * 13: the journal has no words, or somewhere in the chain of its records an index is not below the one before it, a
+ * record reaches past the end of the journal, its block is empty or reaches past an edge of the picture, its view is
+ * above 1 or one of its depths above 255. 11: the record has no room. Time is taken for every word of the chain:
+ * luph_keep a journal whose SETs need not be taken back.
  */
-static inline int luph_set(luph_settings *s, const luph_pictures *p, const luph_planes *q, uint32_t view, luph_block b,
-    luph_candidate candidate, int64_t *change) {
+static inline int luph_set(luph_settings *s, const luph_pictures *p, const luph_planes *q, luph_journal journal, uint32_t view,
+    luph_block b, luph_candidate candidate, int64_t *change) {
     luph_private_copy copy;
     if (luph_private_has_null(p, q)) {
         luph_private_fill(&copy, p, q);
         p = &copy.pictures;
         q = &copy.planes;
     }
+    journal = luph_private_journal(journal);
     const luph_in bytes = luph_private_bytes(candidate);
     int64_t found = 0;
     uint64_t total = 0;
-    const uint32_t number = luph_raw_set(*s, LUPH_RAW_ALL(p, q), view, b, luph_private_shape_of(candidate), LUPH_RAW_SLICE(bytes), &found,
-        &total);
+    const uint32_t number = luph_raw_set(*s, LUPH_RAW_ALL(p, q), LUPH_RAW_SLICE(journal), view, b, luph_private_shape_of(candidate),
+        LUPH_RAW_SLICE(bytes), &found, &total);
     if (number == 0) {
         *change = found;
         s->total = total;
     }
     return (int)number;
+}
+
+/*
+ * TAKE BACK: writes the depths of the journal's newest record into its block as a SET of them would, answers the change
+ * in *change and the new total in s->total as that SET would, saves nothing, and gives word 0 of the journal the index of
+ * the record before. Reads samples as GET does. Refuses 1, 2, 3, 4, 13 as SET does, 12, then 8.
+ */
+static inline int luph_take_back(luph_settings *s, const luph_pictures *p, const luph_planes *q, luph_journal journal,
+    int64_t *change) {
+    luph_private_copy copy;
+    if (luph_private_has_null(p, q)) {
+        luph_private_fill(&copy, p, q);
+        p = &copy.pictures;
+        q = &copy.planes;
+    }
+    journal = luph_private_journal(journal);
+    int64_t found = 0;
+    uint64_t total = 0;
+    const uint32_t number = luph_raw_take_back(*s, LUPH_RAW_ALL(p, q), LUPH_RAW_SLICE(journal), &found, &total);
+    if (number == 0) {
+        *change = found;
+        s->total = total;
+    }
+    return (int)number;
+}
+
+/*
+ * Empties a journal, so that the SETs in it stay and the next ones find a short chain: word 0 becomes 0, where there is
+ * one. No other word is written, and no session is changed.
+ */
+static inline void luph_keep(luph_journal journal) {
+    if (journal.data != NULL && journal.len != 0) journal.data[0] = 0;
 }
 
 /*

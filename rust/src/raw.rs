@@ -46,6 +46,7 @@ extern "C" {
         right_samples: *mut u16, right_samples_len: usize, right_fronts: *mut u8, right_fronts_len: usize,
         right_limits: *mut i16, right_limits_len: usize, right_marks: *mut u8, right_marks_len: usize,
         combined: *mut u16, combined_len: usize,
+        journal: *mut u32, journal_len: usize,
         total: *mut u64,
     ) -> u32;
     fn luph_raw_get(
@@ -71,7 +72,21 @@ extern "C" {
         right_samples: *mut u16, right_samples_len: usize, right_fronts: *mut u8, right_fronts_len: usize,
         right_limits: *mut i16, right_limits_len: usize, right_marks: *mut u8, right_marks_len: usize,
         combined: *mut u16, combined_len: usize,
+        journal: *mut u32, journal_len: usize,
         view: u32, block: Block, shape: Shape, bytes: *const u8, bytes_len: usize,
+        change: *mut i64, total: *mut u64,
+    ) -> u32;
+    fn luph_raw_take_back(
+        settings: Settings,
+        left_texture: *const u16, left_texture_len: usize, right_texture: *const u16, right_texture_len: usize,
+        reference: *const u16, reference_len: usize,
+        left_depths: *mut u8, left_depths_len: usize, right_depths: *mut u8, right_depths_len: usize,
+        left_samples: *mut u16, left_samples_len: usize, left_fronts: *mut u8, left_fronts_len: usize,
+        left_limits: *mut i16, left_limits_len: usize, left_marks: *mut u8, left_marks_len: usize,
+        right_samples: *mut u16, right_samples_len: usize, right_fronts: *mut u8, right_fronts_len: usize,
+        right_limits: *mut i16, right_limits_len: usize, right_marks: *mut u8, right_marks_len: usize,
+        combined: *mut u16, combined_len: usize,
+        journal: *mut u32, journal_len: usize,
         change: *mut i64, total: *mut u64,
     ) -> u32;
     fn luph_raw_check(
@@ -120,12 +135,13 @@ pub fn render(
     accepted(number, ())
 }
 
-/// OPEN: draws both views from pictures and depths into the held planes and writes the total into the settings.
+/// OPEN: draws both views from pictures and depths into the held planes, writes the total into the settings and empties the
+/// journal: its word 0 becomes 0.
 ///
-/// The total passed in is ignored; the depths are only read. Refuses 1, 2, 3, 4, then 21: a texture or reference entry
-/// above 1,023.
+/// The total passed in is ignored, and so is what the journal holds; the depths are only read. Refuses 1, 2, 3, 4, 13 (a
+/// journal of no words), then 21: a texture or reference entry above 1,023.
 #[rustfmt::skip]
-pub fn open(settings: &mut Settings, pictures: &Pictures, planes: &mut PlanesMut) -> Result<(), Refusal> {
+pub fn open(settings: &mut Settings, pictures: &Pictures, planes: &mut PlanesMut, journal: &mut [u32]) -> Result<(), Refusal> {
     let Pictures { textures: [lt, rt], reference } = pictures;
     let PlanesMut { depths: [ld, rd], samples: [ls, rs], fronts: [lf, rf], limits: [ll, rl], marks: [lm, rm], combined } = planes;
     let mut total = 0;
@@ -136,7 +152,7 @@ pub fn open(settings: &mut Settings, pictures: &Pictures, planes: &mut PlanesMut
             ld.as_ptr(), ld.len(), rd.as_ptr(), rd.len(),
             ls.as_mut_ptr(), ls.len(), lf.as_mut_ptr(), lf.len(), ll.as_mut_ptr(), ll.len(), lm.as_mut_ptr(), lm.len(),
             rs.as_mut_ptr(), rs.len(), rf.as_mut_ptr(), rf.len(), rl.as_mut_ptr(), rl.len(), rm.as_mut_ptr(), rm.len(),
-            combined.as_mut_ptr(), combined.len(), &mut total,
+            combined.as_mut_ptr(), combined.len(), journal.as_mut_ptr(), journal.len(), &mut total,
         )
     };
     settings.total = accepted(number, total)?;
@@ -170,13 +186,15 @@ pub fn get(
     accepted(number, change)
 }
 
-/// SET: writes the candidate into the block, brings the held planes up to date, answers the change, and writes the new
-/// total into the settings.
+/// SET: writes the candidate into the block, brings the held planes up to date, saves the depths that were there in the
+/// journal, in 6 + width × height words, answers the change, and writes the new total into the settings.
 ///
-/// Reads samples and refuses as [`get`] does.
+/// Reads samples and refuses as [`get`] does, then 13 and 11. Every word of the journal's chain is examined: [`keep`] a journal
+/// whose SETs need not be taken back.
 #[rustfmt::skip]
 pub fn set(
-    settings: &mut Settings, pictures: &Pictures, planes: &mut PlanesMut, view: u32, block: Block, candidate: Candidate,
+    settings: &mut Settings, pictures: &Pictures, planes: &mut PlanesMut, journal: &mut [u32], view: u32, block: Block,
+    candidate: Candidate,
 ) -> Result<i64, Refusal> {
     let Pictures { textures: [lt, rt], reference } = pictures;
     let PlanesMut { depths: [ld, rd], samples: [ls, rs], fronts: [lf, rf], limits: [ll, rl], marks: [lm, rm], combined } = planes;
@@ -189,11 +207,45 @@ pub fn set(
             ld.as_mut_ptr(), ld.len(), rd.as_mut_ptr(), rd.len(),
             ls.as_mut_ptr(), ls.len(), lf.as_mut_ptr(), lf.len(), ll.as_mut_ptr(), ll.len(), lm.as_mut_ptr(), lm.len(),
             rs.as_mut_ptr(), rs.len(), rf.as_mut_ptr(), rf.len(), rl.as_mut_ptr(), rl.len(), rm.as_mut_ptr(), rm.len(),
-            combined.as_mut_ptr(), combined.len(), view, block, shape, bytes.as_ptr(), bytes.len(), &mut change, &mut total,
+            combined.as_mut_ptr(), combined.len(), journal.as_mut_ptr(), journal.len(),
+            view, block, shape, bytes.as_ptr(), bytes.len(), &mut change, &mut total,
         )
     };
     settings.total = accepted(number, total)?;
     Ok(change)
+}
+
+/// TAKE BACK: writes the depths of the journal's newest record into its block as a SET of them would, and gives word 0 of the
+/// journal the index of the record before. Answers the change and writes the new total into the settings as that SET would;
+/// nothing is saved.
+///
+/// Reads samples as [`get`] does. Refuses 1, 2, 3, 4, 13, 12, then 8.
+#[rustfmt::skip]
+pub fn take_back(
+    settings: &mut Settings, pictures: &Pictures, planes: &mut PlanesMut, journal: &mut [u32],
+) -> Result<i64, Refusal> {
+    let Pictures { textures: [lt, rt], reference } = pictures;
+    let PlanesMut { depths: [ld, rd], samples: [ls, rs], fronts: [lf, rf], limits: [ll, rl], marks: [lm, rm], combined } = planes;
+    let (mut change, mut total) = (0, 0);
+    // SAFETY: see above.
+    let number = unsafe {
+        luph_raw_take_back(
+            *settings, lt.as_ptr(), lt.len(), rt.as_ptr(), rt.len(), reference.as_ptr(), reference.len(),
+            ld.as_mut_ptr(), ld.len(), rd.as_mut_ptr(), rd.len(),
+            ls.as_mut_ptr(), ls.len(), lf.as_mut_ptr(), lf.len(), ll.as_mut_ptr(), ll.len(), lm.as_mut_ptr(), lm.len(),
+            rs.as_mut_ptr(), rs.len(), rf.as_mut_ptr(), rf.len(), rl.as_mut_ptr(), rl.len(), rm.as_mut_ptr(), rm.len(),
+            combined.as_mut_ptr(), combined.len(), journal.as_mut_ptr(), journal.len(), &mut change, &mut total,
+        )
+    };
+    settings.total = accepted(number, total)?;
+    Ok(change)
+}
+
+/// Empties a journal, so that the SETs in it stay and the next ones find a short chain: word 0, where there is one, becomes 0.
+pub fn keep(journal: &mut [u32]) {
+    if let Some(newest) = journal.first_mut() {
+        *newest = 0;
+    }
 }
 
 /// CHECK: compares every held entry with a fresh drawing of the depths. Nothing is written.

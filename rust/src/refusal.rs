@@ -3,7 +3,7 @@
 use std::error::Error;
 use std::fmt;
 
-/// Why a call is refused. A refused call leaves settings and planes as they were.
+/// Why a call is refused. A refused call leaves settings, planes and journal as they were.
 ///
 /// Each call tests its conditions in a fixed order, and the first that applies is answered.
 #[derive(Clone, Copy, Debug, PartialEq, Eq, Hash)]
@@ -25,6 +25,14 @@ pub enum Refusal {
     Candidate = 7,
     /// 8: total plus change below 0 or above 1,046,529 × w × h. It never occurs in a [`Session`](crate::Session).
     Total = 8,
+    /// 11: the words beyond the newest record of the journal cannot hold the new one, or its index passes 32 bits.
+    JournalFull = 11,
+    /// 12: the journal has no record.
+    NothingToTakeBack = 12,
+    /// 13: a journal of no words; and, but for OPEN, one with a chain that does not fall to 0, or with a record past its end, of a
+    /// block that is empty or reaches past an edge, of a view above 1 or with a depth above 255. It never occurs in a
+    /// [`Session`](crate::Session).
+    Journal = 13,
     /// 14: a line's point inside the block or outside it, or two points on one side.
     Line = 14,
     /// 15: a mask that does not have (width × height + 7) / 8 bytes.
@@ -35,7 +43,7 @@ pub enum Refusal {
 
 impl Refusal {
     /// Every refusal, in the order of its number.
-    pub const ALL: [Refusal; 11] = [
+    pub const ALL: [Refusal; 14] = [
         Refusal::Size,
         Refusal::Plane,
         Refusal::Table,
@@ -44,6 +52,9 @@ impl Refusal {
         Refusal::View,
         Refusal::Candidate,
         Refusal::Total,
+        Refusal::JournalFull,
+        Refusal::NothingToTakeBack,
+        Refusal::Journal,
         Refusal::Line,
         Refusal::Mask,
         Refusal::Sample,
@@ -71,6 +82,9 @@ impl fmt::Display for Refusal {
             Refusal::View => "the view is neither 0 nor 1",
             Refusal::Candidate => "the full block does not have width × height depths",
             Refusal::Total => "the total would leave its range",
+            Refusal::JournalFull => "the journal has no room for the record",
+            Refusal::NothingToTakeBack => "there is nothing to take back",
+            Refusal::Journal => "the journal has no words or a record that cannot be right",
             Refusal::Line => "the line does not join two border points of the block that have no side in common",
             Refusal::Mask => "the mask does not have (width × height + 7) / 8 bytes",
             Refusal::Sample => "a texture or reference sample is above 1,023",

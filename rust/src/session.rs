@@ -5,8 +5,38 @@ use std::fmt;
 
 /// Two drawn views, the picture combined from them and the total of its squared errors, held for a pair of depth planes.
 ///
-/// A session owns copies of its pictures and depths, and nothing but [`set`](Session::set) changes it. It is therefore
-/// always sound: every held plane and the total are those of a fresh drawing of the depths as they stand.
+/// A session owns copies of its pictures and depths, and nothing but [`set`](Session::set) and
+/// [`take_back`](Session::take_back) changes it. It is therefore always sound: every held plane and the total are those of a
+/// fresh drawing of the depths as they stand.
+///
+/// It also has a journal of the depths that its SETs replaced, which grows with them: 6 words and one for each depth of the
+/// block, 4 bytes each. [`keep`](Session::keep) empties it.
+///
+/// ```
+/// use luphwezane::{Block, Candidate, Pictures, Refusal, Session, Settings, View};
+///
+/// let table = std::array::from_fn(|d| d as u16);
+/// let settings = Settings { w: 8, h: 2, left: table, right: table, share: 32, tolerance: 255, total: 0 };
+/// let texture: Vec<u16> = (0..16).map(|x| 60 * x).collect();
+/// let pictures = Pictures { textures: [&texture, &texture], reference: &texture };
+/// let mut session = Session::open(&settings, &pictures, [&[0; 16], &[0; 16]])?;
+///
+/// // A unit is set whole, then as two halves. The halves are worse and are taken back, the last one first.
+/// let (unit, left) = (Block { column: 0, row: 0, width: 8, height: 2 }, Block { column: 0, row: 0, width: 4, height: 2 });
+/// let right = Block { column: 4, ..left };
+/// session.set(View::Left, unit, Candidate::Flat(2))?;
+/// let whole = session.total();
+/// let changes = [session.set(View::Left, left, Candidate::Flat(9))?, session.set(View::Left, right, Candidate::Flat(4))?];
+/// assert!(session.total() > whole);
+/// assert_eq!(session.take_back(), Ok(-changes[1]));
+/// assert_eq!(session.take_back(), Ok(-changes[0]));
+/// assert_eq!((session.total(), session.planes().depths[0]), (whole, &[2; 16][..]));
+///
+/// // The unit is decided: what is set stays.
+/// session.keep();
+/// assert_eq!(session.take_back(), Err(Refusal::NothingToTakeBack));
+/// # Ok::<(), luphwezane::Refusal>(())
+/// ```
 #[derive(Clone)]
 pub struct Session {
     settings: Settings,
@@ -18,6 +48,7 @@ pub struct Session {
     limits: [Vec<i16>; 2],
     marks: [Vec<u8>; 2],
     combined: Vec<u16>,
+    journal: Vec<u32>,
 }
 
 impl Session {
@@ -38,9 +69,10 @@ impl Session {
             limits: [vec![0; area], vec![0; area]],
             marks: [vec![0; packed], vec![0; packed]],
             combined: vec![0; area],
+            journal: vec![0],
         };
-        let (settings, pictures, mut planes) = session.lent();
-        lent::open(settings, &pictures, &mut planes)?;
+        let (settings, pictures, mut planes, journal) = session.lent();
+        lent::open(settings, &pictures, &mut planes, journal)?;
         Ok(session)
     }
 
@@ -57,11 +89,36 @@ impl Session {
 
     /// Writes the candidate into the block of the view's depths and answers how the total changed.
     ///
+    /// The depths that were there are saved for [`take_back`](Session::take_back). Every call examines all that is saved, so
+    /// that a long list of SETs becomes slow: call [`keep`](Session::keep) when they need not be taken back.
+    ///
     /// # Errors
-    /// Refuses as [`get`](Session::get) does; the session then stays as it is.
+    /// Refuses as [`get`](Session::get) does; the session then stays as it is. The journal is given room before, so that
+    /// [`JournalFull`](Refusal::JournalFull) is left for one of 2³² words, which are 16 GB of saved depths.
     pub fn set(&mut self, view: View, block: Block, candidate: Candidate) -> Result<i64, Refusal> {
-        let (settings, pictures, mut planes) = self.lent();
-        lent::set(settings, &pictures, &mut planes, view as u32, block, candidate)
+        self.make_room(block);
+        let (settings, pictures, mut planes, journal) = self.lent();
+        lent::set(settings, &pictures, &mut planes, journal, view as u32, block, candidate)
+    }
+
+    /// Takes back the newest SET that stands: depths, held planes and total become what they were before it. Answers how the
+    /// total changed, which is that SET's answer negated.
+    ///
+    /// A SET stands until it is taken back or [`keep`](Session::keep) is called.
+    ///
+    /// # Errors
+    /// Refuses [`NothingToTakeBack`](Refusal::NothingToTakeBack) where no SET stands, and nothing else.
+    pub fn take_back(&mut self) -> Result<i64, Refusal> {
+        let (settings, pictures, mut planes, journal) = self.lent();
+        lent::take_back(settings, &pictures, &mut planes, journal)
+    }
+
+    /// Keeps what is set: no SET made so far can be taken back any more, and the next ones find nothing saved to examine.
+    ///
+    /// Every SET and TAKE BACK examines all that is saved, so a caller with many SETs that it will not take back should call
+    /// this, for example whenever a coding unit is decided. The memory is kept for the next SETs.
+    pub fn keep(&mut self) {
+        lent::keep(&mut self.journal);
     }
 
     /// Compares every held entry and the total with a fresh drawing of the depths. A session is always sound, so this is
@@ -116,7 +173,23 @@ impl Session {
         }
     }
 
-    fn lent(&mut self) -> (&mut Settings, Pictures<'_>, PlanesMut<'_>) {
+    /// Makes the journal long enough for the record of a SET of this block. A block that SET refuses needs none.
+    fn make_room(&mut self, block: Block) {
+        if block.width > self.settings.w || block.height > self.settings.h {
+            return;
+        }
+        let length = |width: u32, height: u32| 6 + width as usize * height as usize;
+        let next = match self.journal[0] as usize {
+            0 => 1,
+            newest => newest + length(self.journal[newest + 4], self.journal[newest + 5]),
+        };
+        let end = next + length(block.width, block.height);
+        if self.journal.len() < end {
+            self.journal.resize(end, 0);
+        }
+    }
+
+    fn lent(&mut self) -> (&mut Settings, Pictures<'_>, PlanesMut<'_>, &mut [u32]) {
         let planes = PlanesMut {
             depths: both_mut(&mut self.depths),
             samples: both_mut(&mut self.samples),
@@ -125,7 +198,8 @@ impl Session {
             marks: both_mut(&mut self.marks),
             combined: &mut self.combined,
         };
-        (&mut self.settings, Pictures { textures: both(&self.textures), reference: &self.reference }, planes)
+        let pictures = Pictures { textures: both(&self.textures), reference: &self.reference };
+        (&mut self.settings, pictures, planes, &mut self.journal)
     }
 }
 

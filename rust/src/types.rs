@@ -3,8 +3,8 @@
 /// The greatest sample of a picture: samples have ten bits, in entries of 16.
 ///
 /// OPEN refuses a texture or reference with a higher entry. The other calls read a higher entry of a texture or reference as
-/// this one, and GET and SET read a higher held or combined sample so too; CHECK compares these as they are, so that a higher
-/// one is a difference.
+/// this one, and GET, SET and TAKE BACK read a higher held or combined sample so too; CHECK compares these as they are, so that
+/// a higher one is a difference.
 pub const GREATEST_SAMPLE: u16 = 1023;
 
 /// The settings of a session. The layout is that of `luph_settings` in the C header.
@@ -23,7 +23,7 @@ pub struct Settings {
     pub share: u8,
     /// How far front depths may differ for both views to be mixed.
     pub tolerance: u8,
-    /// The sum of squared errors of the combined picture. OPEN and SET write it; OPEN ignores what is passed in.
+    /// The sum of squared errors of the combined picture. OPEN, SET and TAKE BACK write it; OPEN ignores what is passed in.
     pub total: u64,
 }
 

@@ -45,7 +45,7 @@ fn depth_by_line(start: Point, end: Point, values: [u8; 2], column: u32, row: u3
 }
 
 /// GET, then SET, of a candidate that is taken: both answer alike, the block has these depths by rows, and nothing else has
-/// changed.
+/// changed. What is set is kept.
 fn set(session: &mut Session, view: View, at: Block, candidate: Candidate, depth: impl Fn(u32, u32) -> u8) {
     let w = session.settings().w as usize;
     let mut expected = session.planes().depths.map(<[u8]>::to_vec);
@@ -59,6 +59,7 @@ fn set(session: &mut Session, view: View, at: Block, candidate: Candidate, depth
     assert_eq!(session.set(view, at, candidate), Ok(change));
     assert_eq!(session.total() as i64, total + change);
     assert!(session.planes().depths == [&expected[0][..], &expected[1][..]], "{candidate:?} in {at:?} filled other depths");
+    session.keep();
 }
 
 /// Every two points with coordinates up to 6, in every block up to 5 × 5: 14 unless each lies on a side and no side has both,
@@ -258,21 +259,22 @@ impl Call {
         let (texture, depths) = (vec![500; 32], [7; 32]);
         let mut planes = GuardedPlanes::new(&mut Random::new(1, 0), 8, 4, [&depths, &depths]);
         let pictures = Pictures { textures: [&texture, &texture], reference: &texture };
-        lent::open(&mut settings, &pictures, &mut planes.lent()).expect("OPEN accepts it");
+        lent::open(&mut settings, &pictures, &mut planes.lent(), &mut [0]).expect("OPEN accepts it");
         Call { settings, texture, planes, view: 0, block: block(1, 1, 4, 3) }
     }
 
-    /// What GET answers; SET must answer the same.
+    /// What GET answers; SET with an empty journal that has room must answer the same.
     fn number(&self, candidate: &Tried) -> u32 {
         let pictures = Pictures { textures: [&self.texture, &self.texture], reference: &self.texture };
         let answer = boundary::get(&self.settings, &pictures, &self.planes.shared(), self.view, self.block, candidate);
-        let (mut settings, mut planes) = (self.settings, self.planes.clone());
-        assert_eq!(boundary::set(&mut settings, &pictures, &mut planes.lent(), self.view, self.block, candidate), answer);
+        let (mut settings, mut planes, mut journal) = (self.settings, self.planes.clone(), [0; 64]);
+        let set = boundary::set(&mut settings, &pictures, &mut planes.lent(), &mut journal, self.view, self.block, candidate);
+        assert_eq!(set, answer);
         if let Some(known) = candidate.known() {
             assert_eq!(lent::get(&self.settings, &pictures, &self.planes.shared(), self.view, self.block, known), answer);
         }
         if answer.is_err() {
-            assert!((settings, &planes) == (self.settings, &self.planes), "a refused SET wrote");
+            assert!((settings, &planes, journal) == (self.settings, &self.planes, [0; 64]), "a refused SET wrote");
         }
         answer.map_or_else(Refusal::number, |_| 0)
     }

@@ -150,9 +150,14 @@ fn largest_change(h: u32, left: u16, right: u16) {
     let whole = Block { column: 0, row: 0, width: 4096, height: h };
     assert_eq!(session.get(View::Left, whole, Candidate::Full(&far)), Ok(0));
     assert_eq!(session.set(View::Left, whole, Candidate::Full(&far)), Ok(0));
+    session.keep();
     assert_eq!(session.get(View::Right, whole, Candidate::Full(&near)), Ok(-worst));
     assert_eq!(session.set(View::Right, whole, Candidate::Full(&near)), Ok(-worst));
+    assert_eq!(session.take_back(), Ok(worst));
+    assert_eq!(session.total() as i64, worst);
+    assert_eq!(session.set(View::Right, whole, Candidate::Full(&near)), Ok(-worst));
     assert_eq!((session.total(), session.holes(View::Right)), (0, 0));
+    session.keep();
     assert_eq!(session.get(View::Right, whole, Candidate::Full(&far)), Ok(worst));
     assert_eq!(session.set(View::Right, whole, Candidate::Full(&far)), Ok(worst));
     assert_eq!(session.total() as i64, worst);

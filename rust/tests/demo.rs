@@ -24,10 +24,10 @@ fn numbers(output: &Output) -> Vec<String> {
     lines.lines().skip(1).filter(|line| !line.starts_with("pictures in")).map(str::to_string).collect()
 }
 
-/// How many blocks were set to one value, by a line and by a mask.
-fn chosen(numbers: &[String]) -> [u64; 3] {
+/// How many units were set to one value, by a line, by a mask and as quarters, and of how many the quarters were taken back.
+fn chosen(numbers: &[String]) -> [u64; 5] {
     let passes = numbers.iter().filter(|line| line.contains(", round "));
-    passes.fold([0; 3], |sums, line| {
+    passes.fold([0; 5], |sums, line| {
         let cells: Vec<&str> = line.split_whitespace().collect();
         std::array::from_fn(|k| sums[k] + cells[4 + k].parse::<u64>().expect("a number"))
     })
@@ -58,7 +58,7 @@ fn made_scene_and_the_same_from_files() {
     let first = numbers(&demo(&["--out", text(&made)]));
     assert!(first.contains(&"check   sound".to_string()));
     assert!(first.iter().all(|line| !line.contains('\r')), "progress is for terminals");
-    assert!(chosen(&first).iter().all(|&blocks| blocks > 0), "the search chooses every kind: {:?}", chosen(&first));
+    assert!(chosen(&first).iter().all(|&units| units > 0), "the search chooses every kind and backs out: {:?}", chosen(&first));
     let files = ["left", "right", "reference", "depth-left-before", "depth-right-before"];
     let files = files.map(|name| made.join(format!("{name}.pgm")));
     assert_eq!(numbers(&demo(&run_again(&files, &again))), first);

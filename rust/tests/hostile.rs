@@ -1,8 +1,8 @@
-//! Calls that no careful caller makes: wrong lengths, numbers and kinds, several at once, planes full of garbage, and samples above
-//! 1,023.
+//! Calls that no careful caller makes: wrong lengths, numbers and kinds, several at once, planes full of garbage, damaged
+//! journals, and samples above 1,023.
 //!
 //! Every call ends, is refused exactly with the first number of its list, writes nothing where it is refused and nothing
-//! outside its planes ever. A longer run:
+//! outside its planes and its journal ever. A longer run:
 //!
 //!     LUPH_SEED=7 LUPH_SESSIONS=100000 cargo test --release --offline --test hostile
 
@@ -13,6 +13,7 @@ mod random;
 use luphwezane::{lent, Block, Pictures, Planes, Refusal, Report, Settings};
 use paper::Drawing;
 use random::{Guarded, GuardedPlanes, Random, Scene, Tried};
+use std::collections::BTreeSet;
 
 /// All that a call is passed.
 #[derive(Clone, PartialEq, Debug)]
@@ -21,33 +22,50 @@ struct Call {
     textures: [Guarded<u16>; 2],
     reference: Guarded<u16>,
     planes: GuardedPlanes,
+    journal: Guarded<u32>,
     view: u32,
     block: Block,
     candidate: Tried,
 }
 
 impl Call {
-    /// A call that is accepted, on a session just opened.
+    /// A call that is accepted, on a session with few SETs that stand; the journal has room for one more.
     fn accepted(random: &mut Random) -> Call {
         let widest = if random.once_in(200) { 600 } else { random.pick(&[9, 9, 9, 9, 40, 40, 40, 40, 40, 140]) };
         let (w, h) = (random.between(1, widest), random.between(1, 6));
         let (share, tolerance) = (random.between(0, 64) as u8, random.byte());
         let scene = Scene::sized(random, w, h, share, tolerance);
         let mut settings = scene.settings;
-        let mut planes = GuardedPlanes::new(random, w, h, scene.depths());
-        lent::open(&mut settings, &scene.pictures(), &mut planes.lent()).expect("OPEN accepts it");
-        let view = random.between(0, 1);
-        let block = random::edited_block(random, &settings, view, &scene.depths[view]);
-        let candidate = random::candidate(random, w, &scene.depths[view], block);
-        Call {
+        let (mut planes, mut journal) = (GuardedPlanes::new(random, w, h, scene.depths()), random::journal(random, w * h));
+        lent::open(&mut settings, &scene.pictures(), &mut planes.lent(), journal.entries_mut()).expect("OPEN accepts it");
+        let mut call = Call {
             settings,
             textures: scene.textures.each_ref().map(|plane| Guarded::new(plane, 0x3c3c)),
             reference: Guarded::new(&scene.reference, 0x3c3c),
             planes,
-            view: view as u32,
-            block,
-            candidate,
+            journal,
+            view: 0,
+            block: Block { column: 0, row: 0, width: 1, height: 1 },
+            candidate: random::full(&[0]),
+        };
+        call.another(random);
+        for _ in 0..random.between(0, 3) {
+            if paper::journal_number(&call.settings, call.journal.entries(), call.block) == 0 {
+                call.set().expect("SET accepts it");
+            }
+            call.another(random);
         }
+        let next = call.journal.entries().len() + 6 + (call.block.width * call.block.height) as usize;
+        call.journal = call.journal.resized(next);
+        call
+    }
+
+    /// Another view, block and candidate.
+    fn another(&mut self, random: &mut Random) {
+        self.view = random.between(0, 1) as u32;
+        let depths = self.planes.shared().depths[self.view as usize];
+        self.block = random::edited_block(random, &self.settings, self.view as usize, depths);
+        self.candidate = random::candidate(random, self.settings.w as usize, depths, self.block);
     }
 
     fn pictures(&self) -> Pictures<'_> {
@@ -55,7 +73,7 @@ impl Call {
         Pictures { textures: [left.entries(), right.entries()], reference: self.reference.entries() }
     }
 
-    /// Numbers of the call's list but 8.
+    /// Numbers of GET's list, and of SET's, but 8 and what SET has after it.
     fn number(&self) -> u32 {
         paper::call_number(&self.settings, &self.pictures(), &self.planes.shared(), self.view, self.block, self.candidate.candidate())
     }
@@ -75,12 +93,44 @@ impl Call {
     }
 
     fn set(&mut self) -> Result<i64, Refusal> {
-        let Call { settings, textures: [left, right], reference, planes, view, block, candidate } = self;
+        let Call { settings, textures: [left, right], reference, planes, journal, view, block, candidate } = self;
         let pictures = Pictures { textures: [left.entries(), right.entries()], reference: reference.entries() };
+        let (planes, journal) = (&mut planes.lent(), journal.entries_mut());
         match candidate.known() {
-            Some(candidate) => lent::set(settings, &pictures, &mut planes.lent(), *view, *block, candidate),
-            None => boundary::set(settings, &pictures, &mut planes.lent(), *view, *block, candidate),
+            Some(candidate) => lent::set(settings, &pictures, planes, journal, *view, *block, candidate),
+            None => boundary::set(settings, &pictures, planes, journal, *view, *block, candidate),
         }
+    }
+
+    /// What SET has after 8.
+    fn journal_number(&self) -> u32 {
+        paper::journal_number(&self.settings, self.journal.entries(), self.block)
+    }
+
+    /// TAKE BACK through the crate, and through the library's symbol: both answer alike.
+    fn take_back(&mut self) -> Result<i64, Refusal> {
+        let mut same = self.clone();
+        let [answer, other] = [&mut *self, &mut same].map(|call| {
+            let Call { settings, textures: [left, right], reference, planes, journal, .. } = call;
+            let pictures = Pictures { textures: [left.entries(), right.entries()], reference: reference.entries() };
+            (settings, pictures, planes, journal)
+        });
+        let answer = lent::take_back(answer.0, &answer.1, &mut answer.2.lent(), answer.3.entries_mut());
+        assert_eq!(boundary::take_back(other.0, &other.1, &mut other.2.lent(), other.3.entries_mut()), answer);
+        assert!(*self == same, "TAKE BACK ends otherwise");
+        answer
+    }
+
+    /// Numbers of TAKE BACK's list but 8.
+    fn take_back_number(&self) -> u32 {
+        paper::take_back_number(&self.settings, &self.pictures(), &self.planes.shared(), self.journal.entries())
+    }
+
+    /// The SET that TAKE BACK of the newest record is like, with a journal of its own.
+    fn set_of_newest(&self) -> Call {
+        let paper::Record { view, block, depths, .. } = paper::newest(&self.settings, self.journal.entries());
+        let journal = Guarded::new(&vec![0; 1 + 6 + depths.len()], 7);
+        Call { view, block, candidate: random::full(&depths), journal, ..self.clone() }
     }
 
     /// The same call with the candidate as a full block; nothing where the candidate is refused.
@@ -92,7 +142,13 @@ impl Call {
     fn open(&mut self) -> Result<(), Refusal> {
         let [left, right] = &self.textures;
         let pictures = Pictures { textures: [left.entries(), right.entries()], reference: self.reference.entries() };
-        lent::open(&mut self.settings, &pictures, &mut self.planes.lent())
+        lent::open(&mut self.settings, &pictures, &mut self.planes.lent(), self.journal.entries_mut())
+    }
+
+    /// The same call with the total of its planes.
+    fn opened(mut self) -> Call {
+        self.open().expect("OPEN accepts it");
+        self
     }
 
     fn check(&self) -> Result<Report, Refusal> {
@@ -128,7 +184,7 @@ impl Call {
 
     /// One thing made wrong, or at least different.
     fn spoil(&mut self, random: &mut Random) {
-        match random.between(0, 14) {
+        match random.between(0, 19) {
             0 => self.settings.w = random.pick(&[0, 4097, self.settings.w.wrapping_add(65536), u32::MAX]),
             1 => self.settings.h = random.pick(&[0, 4097, self.settings.h.wrapping_add(65536), u32::MAX]),
             2 => std::mem::swap(&mut self.settings.w, &mut self.settings.h),
@@ -160,6 +216,9 @@ impl Call {
                     picture[random.between(0, last)] = random.high();
                 }
             }
+            14..=16 => random::damage_journal(random, &self.settings, self.journal.entries_mut()),
+            17 => self.journal = resized(random, &self.journal),
+            18 => self.journal = self.journal.resized(self.journal.entries().len().saturating_sub(random.between(1, 20))),
             _ => self.settings.total = random.next() >> random.between(0, 63),
         }
     }
@@ -183,20 +242,22 @@ impl Call {
 /// The same entries, fewer or more of them.
 fn resized<T: Copy + PartialEq + Default>(random: &mut Random, plane: &Guarded<T>) -> Guarded<T> {
     let n = plane.entries().len();
-    let mut entries = plane.entries().to_vec();
-    entries.resize(random.pick(&[0, n.saturating_sub(1), n + 1, n + 8, 2 * n]), T::default());
-    Guarded::new(&entries, plane.guard())
+    plane.resized(random.pick(&[0, n.saturating_sub(1), n + 1, n + 8, 2 * n]))
 }
 
 fn refusal(number: u32) -> Refusal {
     Refusal::from_number(number).expect("a refusal's number")
 }
 
-/// The answer of a GET or SET whose planes may be those of no session: its first number, else some change or 8.
-fn answered(call: &Call, answer: Result<i64, Refusal>) {
-    match (call.number(), answer) {
-        (0, Ok(change)) => assert!(paper::total_is_taken(&call.settings, change), "change {change} takes the total out of range"),
-        (0, Err(other)) => assert_eq!(other, Refusal::Total),
+/// The answer of a call whose planes may be those of no session: its first number but 8, else some change or 8; where it would
+/// be refused with `last` after 8, no change.
+fn answered(settings: &Settings, number: u32, last: u32, answer: Result<i64, Refusal>) {
+    match (number, answer) {
+        (0, Ok(change)) => {
+            assert_eq!(last, 0, "the call is to be refused");
+            assert!(paper::total_is_taken(settings, change), "change {change} takes the total out of range");
+        }
+        (0, Err(other)) => assert!(other == Refusal::Total || other.number() == last, "{other}"),
         (number, _) => assert_eq!(answer, Err(refusal(number))),
     }
 }
@@ -205,23 +266,51 @@ fn answered(call: &Call, answer: Result<i64, Refusal>) {
 /// for the full block that the candidate fills.
 fn edit(call: &mut Call) {
     let (before, mut read, full) = (call.clone(), call.read(), call.as_full());
-    answered(call, call.get());
+    answered(&call.settings, call.number(), 0, call.get());
     assert_eq!(call.get(), read.get());
     assert!(*call == before, "GET wrote");
     let answer = call.set();
-    answered(&before, answer);
+    answered(&before.settings, before.number(), if before.number() == 0 { before.journal_number() } else { 0 }, answer);
     assert_eq!(answer, read.set());
-    assert!(call.planes.are_intact(), "a guard was written");
+    assert!(call.planes.are_intact() && call.journal.is_intact(), "a guard was written");
     if let Some(mut full) = full {
         assert_eq!((full.get(), full.set()), (before.get(), answer));
         assert!((full.settings, &full.planes) == (call.settings, &call.planes), "SET of the full block ends otherwise");
+        assert!(full.journal == call.journal, "SET of the full block saves otherwise");
     }
     match answer {
         Err(_) => assert!(*call == before, "a refused SET wrote"),
         Ok(change) => {
             compare_any(&before, call, change);
             compare_read(&before, call, &read);
+            let depths = before.planes.shared().depths;
+            let saved = paper::saved(&before.settings, before.journal.entries(), depths, before.view as usize, before.block);
+            assert!(call.journal.entries() == saved, "SET saves otherwise");
         }
+    }
+}
+
+/// TAKE BACK of a call whose planes may be those of no session: it answers and ends as a SET of the newest record's depths, but
+/// for the journal, of which it writes word 0 alone.
+fn taken_back(mut call: Call) {
+    let (before, mut read) = (call.clone(), call.read());
+    let answer = call.take_back();
+    answered(&before.settings, before.take_back_number(), 0, answer);
+    assert_eq!(answer, read.take_back());
+    assert!(call.planes.are_intact() && call.journal.is_intact(), "a guard was written");
+    if before.take_back_number() == 0 {
+        let (start, mut set) = (before.set_of_newest(), before.set_of_newest());
+        assert_eq!(set.set(), answer);
+        assert!((set.settings, &set.planes) == (call.settings, &call.planes), "the SET ends otherwise");
+        if let Ok(change) = answer {
+            compare_any(&start, &set, change);
+            compare_read(&before, &call, &read);
+            let record = paper::newest(&before.settings, before.journal.entries());
+            assert!(call.journal.entries() == paper::with_newest(before.journal.entries(), record.before));
+        }
+    }
+    if answer.is_err() {
+        assert!(call == before, "a refused TAKE BACK wrote");
     }
 }
 
@@ -281,11 +370,12 @@ fn questions(call: &Call) {
 fn opened(mut call: Call) {
     let before = call.clone();
     let opened = call.open();
-    assert!(call.planes.are_intact(), "a guard was written");
-    match paper::open_number(&before.settings, &before.pictures(), &before.planes.shared()) {
+    assert!(call.planes.are_intact() && call.journal.is_intact(), "a guard was written");
+    match paper::open_number(&before.settings, &before.pictures(), &before.planes.shared(), before.journal.entries()) {
         0 => {
             assert_eq!(opened, Ok(()));
             assert_eq!(call.planes.depths, before.planes.depths);
+            assert!(call.journal.entries() == paper::with_newest(before.journal.entries(), 0), "OPEN writes word 0 alone");
             assert_eq!(call.check(), Ok(Report::Sound));
         }
         number => {
@@ -340,8 +430,52 @@ fn wrong_lengths_and_numbers() {
         questions(&call);
         rendered(random, &call);
         opened(call.clone());
+        taken_back(call.clone());
         edit(&mut call);
     });
+}
+
+/// A call on planes of a session, with a journal that is damaged or too short by some words; one, mostly.
+fn with_damaged_journal(random: &mut Random) -> Call {
+    let mut call = Call::accepted(random);
+    for _ in 0..random.between(1, 2) {
+        match random.between(0, 5) {
+            0 => call.journal = call.journal.resized(random.between(0, call.journal.entries().len())),
+            1 => {
+                let records = paper::chain(&call.settings, call.journal.entries()).unwrap_or_default();
+                let end = paper::next_index(&records) + 6 + (call.block.width * call.block.height) as usize;
+                call.journal = call.journal.resized(random.pick(&[end, end - 1, end - 1, end - 6]));
+            }
+            _ => random::damage_journal(random, &call.settings, call.journal.entries_mut()),
+        }
+    }
+    call
+}
+
+/// On planes of a session SET and TAKE BACK are decided for all journals: the numbers of both, 0 where they accept.
+fn by_journal(call: &Call) -> (u32, u32) {
+    let number = |answer: Result<i64, Refusal>| answer.map_or_else(Refusal::number, |_| 0);
+    let numbers = (call.journal_number(), call.take_back_number());
+    assert_eq!((number(call.clone().set()), number(call.clone().take_back())), numbers);
+    numbers
+}
+
+#[test]
+fn damaged_journals() {
+    random::sessions("damaged journals", 6000, |random, _| {
+        let mut call = with_damaged_journal(random);
+        by_journal(&call);
+        taken_back(call.clone());
+        edit(&mut call);
+    });
+}
+
+/// Damage leads to every answer, and it can leave a journal that is taken.
+#[test]
+fn damaged_journals_reach_every_number() {
+    let random = &mut Random::new(1, 0);
+    let reached: BTreeSet<(u32, u32)> = (0..3000).map(|_| by_journal(&with_damaged_journal(random))).collect();
+    assert_eq!(reached, [(0, 0), (0, 12), (11, 0), (11, 12), (13, 13)].into());
 }
 
 #[test]
@@ -364,11 +498,9 @@ fn garbage_planes() {
         call.settings.total = random.pick(&[0, call.settings.total, paper::WORST * (w * h) as u64 / 2, u64::MAX]);
         for _ in 0..4 {
             questions(&call);
+            taken_back(call.clone());
             edit(&mut call);
-            call.view = random.between(0, 1) as u32;
-            let depths = call.planes.shared().depths[call.view as usize];
-            call.block = random::edited_block(random, &call.settings, call.view as usize, depths);
-            call.candidate = random::candidate(random, w, depths, call.block);
+            call.another(random);
         }
         opened(call);
     });
@@ -400,6 +532,15 @@ fn edit_raised(mut call: Call) {
     assert_eq!(call.set(), Ok(change));
     assert!(call.planes.are_intact(), "a guard was written");
     assert_eq!(call.settings, Settings { total: fresh.total, ..settings });
+    let mut back = call.clone();
+    assert_eq!(back.take_back(), Ok(-change));
+    assert_eq!((back.settings, back.planes.shared().depths), (settings, old.depths));
+    let drawn = paper::drawing(&settings, &call.pictures(), old.depths);
+    let held = back.planes.shared();
+    assert_eq!((held.fronts, held.marks, held.limits), (both(&drawn.fronts), both(&drawn.marks), both(&drawn.limits)));
+    let samples = |planes: [&[u16]; 3]| planes.concat().into_iter().map(paper::read).collect::<Vec<_>>();
+    let shown = samples([held.samples[0], held.samples[1], held.combined]);
+    assert_eq!(shown, samples([&drawn.samples[0], &drawn.samples[1], &drawn.combined]));
     let new = call.planes.shared();
     assert_eq!(new.depths, depths);
     assert_eq!((new.fronts, new.marks), (both(&fresh.fronts), both(&fresh.marks)));
@@ -445,6 +586,7 @@ fn raised_samples() {
         let all = Call { planes: held.planes.clone(), ..pictures.clone() };
         for call in [pictures, held, all] {
             questions(&call);
+            taken_back(call.clone());
             edit(&mut call.clone());
             edit_raised(call);
         }
@@ -467,6 +609,12 @@ fn totals_out_of_range() {
             if expected.is_err() {
                 assert_eq!(call.set(), expected);
                 assert!(call == before, "a refused SET wrote");
+            }
+            if call.take_back_number() == 0 {
+                let change = call.clone().set_of_newest().opened().get().expect("GET accepts it");
+                let expected = if paper::total_is_taken(&call.settings, change) { Ok(change) } else { Err(Refusal::Total) };
+                assert_eq!(call.clone().take_back(), expected);
+                taken_back(call.clone());
             }
         }
     }

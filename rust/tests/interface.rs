@@ -15,6 +15,9 @@ fn refusals_have_numbers_and_words() {
         (Refusal::View, 6, "refused (6): the view is neither 0 nor 1"),
         (Refusal::Candidate, 7, "refused (7): the full block does not have width × height depths"),
         (Refusal::Total, 8, "refused (8): the total would leave its range"),
+        (Refusal::JournalFull, 11, "refused (11): the journal has no room for the record"),
+        (Refusal::NothingToTakeBack, 12, "refused (12): there is nothing to take back"),
+        (Refusal::Journal, 13, "refused (13): the journal has no words or a record that cannot be right"),
         (Refusal::Line, 14, "refused (14): the line does not join two border points of the block that have no side in common"),
         (Refusal::Mask, 15, "refused (15): the mask does not have (width × height + 7) / 8 bytes"),
         (Refusal::Sample, 21, "refused (21): a texture or reference sample is above 1,023"),
@@ -26,7 +29,7 @@ fn refusals_have_numbers_and_words() {
         let error: Box<dyn Error + Send + Sync> = refusal.into();
         assert_eq!(error.to_string(), words);
     }
-    for number in [0, 9, 13, 16, 20, 22, 263, 277, u32::MAX] {
+    for number in [0, 9, 10, 16, 20, 22, 263, 267, 277, u32::MAX] {
         assert_eq!(Refusal::from_number(number), None);
     }
 }
@@ -69,6 +72,56 @@ fn a_session_refuses_5_7_14_and_15_and_stays() {
     assert_eq!(session.get(View::Left, block(0, 0, 9, 1), Candidate::mask(&[0], [1, 2])), Err(Refusal::Mask));
     assert_eq!(session.set(View::Left, block(0, 0, 9, 1), Candidate::mask(&[0; 3], [1, 2])), Err(Refusal::Mask));
     assert_eq!((session.total(), session.check()), (0, Report::Sound));
+    assert_eq!(session.take_back(), Err(Refusal::NothingToTakeBack), "a refused SET does not stand");
+}
+
+/// SETs are taken back one by one, the newest first, up to the last `keep`.
+#[test]
+fn sets_are_taken_back() {
+    let mut session = session();
+    let opening = session.planes().combined.to_vec();
+    let block = |column, row, width, height| Block { column, row, width, height };
+    let mut changes = Vec::new();
+    for (k, view) in [View::Left, View::Right, View::Left].into_iter().enumerate() {
+        changes.push(session.set(view, block(k as u32, 0, 6, 2), Candidate::Flat(30 + 9 * k as u8)).expect("SET accepts it"));
+    }
+    assert_eq!(session.total() as i64, changes.iter().sum::<i64>());
+    let mut copy = session.clone();
+    for change in changes.iter().rev() {
+        assert_eq!(session.take_back(), Ok(-change));
+        assert_eq!(session.check(), Report::Sound);
+    }
+    assert_eq!((session.total(), session.planes().combined), (0, &opening[..]));
+    assert_eq!(session.planes().depths, [[0; 18]; 2]);
+    for _ in 0..2 {
+        assert_eq!(session.take_back(), Err(Refusal::NothingToTakeBack));
+    }
+
+    // The copy has the SETs of its own.
+    assert_eq!(copy.take_back(), Ok(-changes[2]));
+    copy.keep();
+    let kept = copy.planes().depths.map(<[u8]>::to_vec);
+    assert_eq!(copy.take_back(), Err(Refusal::NothingToTakeBack));
+    let change = copy.set(View::Right, block(8, 1, 1, 1), Candidate::Flat(255)).expect("SET accepts it");
+    assert_eq!(copy.take_back(), Ok(-change));
+    assert_eq!(copy.planes().depths, [&kept[0][..], &kept[1][..]]);
+    assert_eq!(copy.take_back(), Err(Refusal::NothingToTakeBack));
+    assert_eq!((copy.total() as i64, copy.check()), (changes[0] + changes[1], Report::Sound));
+}
+
+/// A block that is refused makes no room in the journal, however large it says it is; one that fits does.
+#[test]
+fn a_session_makes_room() {
+    let mut session = session();
+    let huge = Block { column: 0, row: 0, width: u32::MAX, height: u32::MAX };
+    assert_eq!(session.set(View::Left, huge, Candidate::Flat(1)), Err(Refusal::Bounds));
+    for (k, width) in [1, 9, 2, 9, 9, 3].into_iter().enumerate() {
+        let block = Block { column: 0, row: 0, width, height: 2 };
+        session.set(View::Left, block, Candidate::Flat(k as u8)).expect("SET accepts it");
+        assert_eq!(session.set(View::Left, huge, Candidate::Flat(1)), Err(Refusal::Bounds));
+    }
+    let firsts: Vec<u8> = (0..6).map(|_| session.take_back().map(|_| session.planes().depths[0][0]).expect("it stands")).collect();
+    assert_eq!(firsts, [4, 3, 2, 1, 0, 0]);
 }
 
 /// A candidate is small, can be copied and compared, and is a value that a constant may have.

@@ -197,7 +197,8 @@ fn distance(old: &LeftRow, new: &LeftRow, a: usize, b: usize) -> Option<usize> {
     new.near_edge(p).filter(|&near| near > b).map(|near| near - b)
 }
 
-/// Every block up to a width in every row of these depths, with every candidate of these depths: GET, SET, and the SET back.
+/// Every block up to a width in every row of these depths, with every candidate of these depths: GET, SET, and the SET back or
+/// TAKE BACK.
 #[test]
 fn every_small_edit() {
     let (mut reached, table) = (BTreeSet::new(), table());
@@ -227,7 +228,12 @@ fn every_small_edit() {
                         );
                         assert_eq!(session.set(view, block, Candidate::Full(&candidate)), Ok(change));
                         compare(&session, view, &drawings[after]);
-                        assert_eq!(session.set(view, block, Candidate::Full(&own)), Ok(-change));
+                        if k % 2 == 0 {
+                            assert_eq!(session.set(view, block, Candidate::Full(&own)), Ok(-change));
+                            session.keep();
+                        } else {
+                            assert_eq!(session.take_back(), Ok(-change));
+                        }
                         reached.extend(distance(&row(n), &row(after), a, b).map(|far| (view as usize, far)));
                     }
                     compare(&session, view, &drawings[n]);

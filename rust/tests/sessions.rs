@@ -1,7 +1,7 @@
-//! Random sessions, matched with the independent renderer: every reply, every plane with its spare bits, the total, CHECK
-//! and HOLES after every call.
+//! Random sessions, matched with the independent renderer: every reply, every plane with its spare bits, the total, every word
+//! of the journal, CHECK and HOLES after every call.
 //!
-//! Each session runs twice at once: over guarded planes that the test keeps, and as a `Session`. A longer run:
+//! Each session runs twice at once: over guarded planes and a journal that the test keeps, and as a `Session`. A longer run:
 //!
 //!     LUPH_SEED=7 LUPH_SESSIONS=100000 cargo test --release --offline --test sessions
 
@@ -20,10 +20,25 @@ struct Run {
     /// What the calls are passed and answer.
     settings: Settings,
     planes: GuardedPlanes,
+    journal: Guarded<u32>,
     session: Session,
-    /// The record: two depth planes, and their fresh drawing.
+    /// The record: two depth planes, their fresh drawing, and a copy of the journal by the rules.
     record: [Vec<u8>; 2],
     fresh: Drawing,
+    copy: Vec<u32>,
+    /// The depths that the run began with, and the SETs that still stand.
+    opening: [Vec<u8>; 2],
+    standing: Vec<Standing>,
+}
+
+/// A SET that has not been taken back.
+struct Standing {
+    view: View,
+    block: Block,
+    depths: Vec<u8>,
+    change: i64,
+    /// What was drawn before it.
+    before: Drawing,
 }
 
 impl Run {
@@ -31,11 +46,13 @@ impl Run {
         let (w, h) = (scene.settings.w as usize, scene.settings.h as usize);
         let mut settings = scene.settings;
         let mut planes = GuardedPlanes::new(random, w, h, scene.depths());
-        assert_eq!(lent::open(&mut settings, &scene.pictures(), &mut planes.lent()), Ok(()));
+        let mut journal = random::journal(random, w * h);
+        let copy = paper::with_newest(journal.entries(), 0);
+        assert_eq!(lent::open(&mut settings, &scene.pictures(), &mut planes.lent(), journal.entries_mut()), Ok(()));
         let session = Session::open(&scene.settings, &scene.pictures(), scene.depths()).expect("OPEN accepts it too");
         let fresh = paper::drawing(&scene.settings, &scene.pictures(), scene.depths());
-        let record = scene.depths.clone();
-        let run = Run { scene, settings, planes, session, record, fresh };
+        let (record, opening) = (scene.depths.clone(), scene.depths.clone());
+        let run = Run { scene, settings, planes, journal, session, record, fresh, copy, opening, standing: Vec::new() };
         run.compare();
         run
     }
@@ -53,7 +70,8 @@ impl Run {
         let settings = Settings { total: self.fresh.total, ..self.scene.settings };
         assert_eq!(self.settings, settings);
         assert_eq!(*self.session.settings(), settings);
-        assert!(self.planes.are_intact(), "a guard was written");
+        assert!(self.planes.are_intact() && self.journal.is_intact(), "a guard was written");
+        assert!(self.journal.entries() == self.copy, "the journal is another");
         self.compare_planes(&self.planes.shared());
         self.compare_planes(&self.session.planes());
         assert_eq!(lent::check(&self.settings, &self.scene.pictures(), &self.planes.shared()), Ok(Report::Sound));
@@ -92,23 +110,86 @@ impl Run {
         change
     }
 
-    /// SET by both, by one of them as a full block.
+    /// SET by both, by one of them as a full block. Where the journal has no room for it, both keep what they have first.
     fn set(&mut self, random: &mut Random, view: View, block: Block, tried: &Tried) -> i64 {
         let candidate = tried.candidate();
+        if paper::journal_number(&self.settings, &self.copy, block) == 11 {
+            self.full(view, block, tried);
+        }
         let depths = paper::written(&self.settings, self.record(), view as usize, block, candidate);
         let fresh = self.drawing(&depths);
         let change = fresh.total as i64 - self.fresh.total as i64;
-        let (pictures, mut planes, full) = (self.scene.pictures(), self.planes.lent(), paper::filled(block, candidate));
+        let (pictures, full) = (self.scene.pictures(), paper::filled(block, candidate));
+        let (planes, journal) = (&mut self.planes.lent(), self.journal.entries_mut());
         let mut candidates = [candidate, Candidate::Full(&full)];
         if random.once_in(2) {
             candidates.reverse();
         }
-        assert_eq!(lent::set(&mut self.settings, &pictures, &mut planes, view as u32, block, candidates[0]), Ok(change));
+        assert_eq!(lent::set(&mut self.settings, &pictures, planes, journal, view as u32, block, candidates[0]), Ok(change));
         assert_eq!(self.session.set(view, block, candidates[1]), Ok(change));
+        self.copy = paper::saved(&self.settings, &self.copy, self.record(), view as usize, block);
         let before = (std::mem::replace(&mut self.record, depths), std::mem::replace(&mut self.fresh, fresh));
         self.compare();
         self.compare_span(view as usize, block, &before.0, &before.1);
+        self.standing.push(Standing { view, block, depths: full, change, before: before.1 });
         change
+    }
+
+    /// A SET that the journal has no room for: it is refused and all stays. Then what is set is kept, and the SET has room.
+    fn full(&mut self, view: View, block: Block, tried: &Tried) {
+        let (pictures, planes, journal) = (self.scene.pictures(), &mut self.planes.lent(), self.journal.entries_mut());
+        let answer = boundary::set(&mut self.settings, &pictures, planes, journal, view as u32, block, tried);
+        assert_eq!(answer, Err(Refusal::JournalFull));
+        self.compare();
+        self.keep();
+    }
+
+    /// What is set stays, and the run goes on as one that begins here.
+    fn keep(&mut self) {
+        self.halted();
+        lent::keep(self.journal.entries_mut());
+        self.session.keep();
+        self.copy = paper::with_newest(&self.copy, 0);
+        self.opening = self.record.clone();
+        self.standing.clear();
+        self.compare();
+    }
+
+    /// TAKE BACK by both: the newest SET that stands is undone and its change comes back negated; 12 where none stands.
+    fn take_back(&mut self) {
+        let (pictures, planes, journal) = (self.scene.pictures(), &mut self.planes.lent(), self.journal.entries_mut());
+        let Some(Standing { view, block, change, before, .. }) = self.standing.pop() else {
+            let refusal = Err(Refusal::NothingToTakeBack);
+            assert_eq!(boundary::take_back(&mut self.settings, &pictures, planes, journal), refusal);
+            assert_eq!(lent::take_back(&mut self.settings, &pictures, planes, journal), refusal);
+            assert_eq!(self.session.take_back(), refusal);
+            return self.compare();
+        };
+        assert_eq!(lent::take_back(&mut self.settings, &pictures, planes, journal), Ok(-change));
+        assert_eq!(self.session.take_back(), Ok(-change));
+        let record = paper::newest(&self.settings, &self.copy);
+        assert_eq!((record.view, record.block), (view as u32, block));
+        let depths = paper::written(&self.settings, self.record(), view as usize, block, Candidate::Full(&record.depths));
+        let fresh = self.drawing(&depths);
+        assert!(fresh == before, "the record does not hold what was there");
+        self.copy = paper::with_newest(&self.copy, record.before);
+        let after = (std::mem::replace(&mut self.record, depths), std::mem::replace(&mut self.fresh, fresh));
+        self.compare();
+        self.compare_span(view as usize, block, &after.0, &after.1);
+    }
+
+    /// A run is judged by the SETs that stand: the depths are those it began with, and these SETs written in turn.
+    fn halted(&self) {
+        let mut depths = self.opening.clone();
+        for Standing { view, block, depths: full, .. } in &self.standing {
+            depths = paper::written(&self.settings, [&depths[0], &depths[1]], *view as usize, *block, Candidate::Full(full));
+        }
+        assert!(depths == self.record, "the SETs that stand make other depths");
+        let fresh = self.drawing(&depths);
+        assert!(fresh == self.fresh);
+        let sum: i64 = self.standing.iter().map(|set| set.change).sum();
+        assert_eq!(self.drawing(&self.opening).total as i64 + sum, self.settings.total as i64);
+        assert_eq!(paper::chain(&self.settings, &self.copy).map(|records| records.len()), Some(self.standing.len()));
     }
 
     /// A SET shows in the spans of the block's rows only, moves limits of columns up to the block's last only, and leaves
@@ -144,10 +225,11 @@ impl Run {
         let number = paper::call_number(&self.settings, &pictures, &planes, view, block, tried.candidate());
         let refusal = Refusal::from_number(number).expect("the call is to be refused");
         assert_eq!(boundary::get(&self.settings, &pictures, &planes, view, block, tried), Err(refusal));
-        assert_eq!(boundary::set(&mut self.settings, &pictures, &mut self.planes.lent(), view, block, tried), Err(refusal));
+        let journal = self.journal.entries_mut();
+        assert_eq!(boundary::set(&mut self.settings, &pictures, &mut self.planes.lent(), journal, view, block, tried), Err(refusal));
         if let Some(candidate) = tried.known() {
             assert_eq!(lent::get(&self.settings, &pictures, &self.planes.shared(), view, block, candidate), Err(refusal));
-            assert_eq!(lent::set(&mut self.settings, &pictures, &mut self.planes.lent(), view, block, candidate), Err(refusal));
+            assert_eq!(lent::set(&mut self.settings, &pictures, &mut self.planes.lent(), journal, view, block, candidate), Err(refusal));
             if let Some(view) = View::BOTH.into_iter().find(|v| *v as u32 == view) {
                 assert_eq!(self.session.get(view, block, candidate), Err(refusal));
                 assert_eq!(self.session.set(view, block, candidate), Err(refusal));
@@ -179,13 +261,11 @@ impl Run {
         }
     }
 
-    /// A SET taken back by a SET of the depths that were there.
-    fn taken_back(&mut self, random: &mut Random) {
+    /// A SET undone by a SET of the depths that were there.
+    fn set_back(&mut self, random: &mut Random) {
         let (view, block, candidate) = self.any_edit(random);
-        let (w, before) = (self.settings.w as usize, self.fresh.clone());
-        let rows = block.row as usize..(block.row + block.height) as usize;
-        let row = |y: usize| &self.record[view as usize][y * w + block.column as usize..][..block.width as usize];
-        let old = random::full(&rows.flat_map(|y| row(y).to_vec()).collect::<Vec<u8>>());
+        let before = self.fresh.clone();
+        let old = random::full(&paper::depths_of(&self.settings, &self.record[view as usize], block));
         assert_eq!(self.set(random, view, block, &old), 0);
         let change = self.set(random, view, block, &candidate);
         assert_eq!(self.set(random, view, block, &old), -change);
@@ -213,17 +293,20 @@ impl Run {
     }
 
     fn call(&mut self, random: &mut Random) {
-        match random.between(0, 9) {
+        match random.between(0, 14) {
             0..=2 => {
                 let (view, block, candidate) = self.any_edit(random);
                 self.get(view, block, &candidate);
             }
-            3..=5 => {
+            3..=6 => {
                 let (view, block, candidate) = self.any_edit(random);
                 self.set(random, view, block, &candidate);
             }
-            6 | 7 => self.tried(random),
-            8 => self.taken_back(random),
+            7 | 8 => self.tried(random),
+            9 => self.set_back(random),
+            10 | 11 => self.take_back(),
+            12 => (0..random.between(1, 4)).for_each(|_| self.take_back()),
+            13 if random.once_in(3) => self.keep(),
             _ => self.any_refused(random),
         }
     }
@@ -284,7 +367,8 @@ fn any<'a, T: Copy + PartialEq>(random: &mut Random, plane: &'a mut Guarded<T>) 
     &mut entries[random.between(0, entries.len() - 1)]
 }
 
-/// OPEN of pictures of which one has a higher entry, with perhaps something before it that is refused: nothing is written.
+/// OPEN of pictures of which one has a higher entry, or with a journal of no words, with perhaps something before it that is
+/// refused: nothing is written. A `Session` has a journal of its own.
 fn refused_open(random: &mut Random, scene: &Scene) {
     let (w, h) = (scene.settings.w as usize, scene.settings.h as usize);
     let mut settings = scene.settings;
@@ -300,11 +384,14 @@ fn refused_open(random: &mut Random, scene: &Scene) {
     }
     let pictures = Pictures { textures: [&pictures[0], &pictures[1]], reference: &pictures[2] };
     let mut planes = GuardedPlanes::new(random, w, h, scene.depths());
-    let refusal = Refusal::from_number(paper::open_number(&settings, &pictures, &planes.shared())).expect("OPEN is to be refused");
-    let before = (settings, planes.clone());
-    assert_eq!(lent::open(&mut settings, &pictures, &mut planes.lent()), Err(refusal));
-    assert!((settings, planes) == before, "a refused OPEN wrote");
-    assert_eq!(Session::open(&settings, &pictures, scene.depths()).map(|_| ()), Err(refusal));
+    let mut journal = if random.once_in(4) { Guarded::new(&[], 7) } else { random::journal(random, w * h) };
+    let number = |journal: &[u32]| Refusal::from_number(paper::open_number(&settings, &pictures, &planes.shared(), journal));
+    let refusal = number(journal.entries()).expect("OPEN is to be refused");
+    let own = number(&[0]).expect("OPEN is to be refused");
+    assert_eq!(Session::open(&settings, &pictures, scene.depths()).map(|_| ()), Err(own));
+    let before = (settings, planes.clone(), journal.clone());
+    assert_eq!(lent::open(&mut settings, &pictures, &mut planes.lent(), journal.entries_mut()), Err(refusal));
+    assert!((settings, planes, journal) == before, "a refused OPEN wrote");
 }
 
 /// What random candidates are: kind and number, and of lines how many ends are corners, which ends of a refused one are inside
@@ -365,6 +452,7 @@ fn random_sessions() {
         for _ in 0..calls {
             run.call(random);
         }
+        run.halted();
         run.rendered(random);
         run.damaged(random);
     });

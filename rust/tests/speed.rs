@@ -1,6 +1,6 @@
 //! The speed program, shortly: the library, the full redraw and the span renderer must answer alike, also in the calls whose
-//! instructions are counted, a candidate of any kind as the full block that it fills, and HOLES must count as both ways of
-//! counting do.
+//! instructions are counted, a candidate of any kind as the full block that it fills, SET whatever its journal holds, TAKE BACK
+//! as the SET of the same depths, and HOLES must count as both ways of counting do.
 
 use std::process::{Command, Output};
 
@@ -19,6 +19,7 @@ fn all_three_answer_alike() {
     assert!(
         said.contains("GET / span renderer at 4 × 4, 8 × 8, 64 × 64: ")
             && said.contains("| GET / GET of the same full block | one value | a line | a mask |\n")
+            && said.contains(" | SET with 1,000 records / SET with none | TAKE BACK / SET |\n")
             && said.contains("HOLES / by the word at 1,024 and 1,001 columns: ")
     );
 }
@@ -32,7 +33,8 @@ fn sum(call: &str, program: &str) -> String {
 
 #[test]
 fn counted_calls() {
-    for call in ["GET at 4 × 4", "GET at 8 × 8", "GET at 64 × 64", "SET at 8 × 8", "OPEN", "RENDER", "GET at 1 × 1"] {
+    let calls = ["GET at 4 × 4", "GET at 8 × 8", "GET at 64 × 64", "SET at 8 × 8", "OPEN", "RENDER", "GET at 1 × 1"];
+    for call in calls.into_iter().chain(["SET and TAKE BACK at 8 × 8"]) {
         let library = sum(call, "the library");
         assert_eq!(sum(call, "span renderer"), library, "{call}");
         assert_eq!(sum(call, "full redraw"), library, "{call}");

@@ -1,4 +1,5 @@
-// A caller that goes by the theorem of a run alone: a session opened, a candidate tried, another one set, and the first tried again.
+// A caller that goes by the theorem of a run alone: a session opened, a candidate tried, another one set, the first tried again, the SET taken back, and the first
+// tried once more.
 use model::Block;
 use model::Candidate;
 use model::Refusal;
@@ -7,15 +8,18 @@ use model::Trial;
 ghost use Rattle.model.specs.Planes as planes;
 ghost use Rattle.bound.specs.Answers.{Visited};
 
-// What the four calls answered; where the session was not opened, nothing was tried.
+// What the six calls answered; where the session was not opened, nothing was tried.
 pub struct Visit {
     pub opened: Refusal,
     pub tried: Trial,
     pub chosen: Trial,
     pub again: Trial,
+    pub taken: Trial,
+    pub last: Trial,
 }
 
-// OPEN, then GET of `first`, SET of `second` and GET of `first` again, all for one block of one view; each candidate with the bytes that are lent beside it.
+// OPEN, then GET of `first`, SET of `second`, GET of `first` again, TAKE BACK and GET of `first` once more, all with one journal and for one block of one view; each
+// candidate with the bytes that are lent beside it.
 pub fn open_and_try(
     settings: Settings,
     left: &[u16],
@@ -32,6 +36,7 @@ pub fn open_and_try(
     rightLimits: &mut [i16],
     rightMarks: &mut [u8],
     combined: &mut [u16],
+    journal: &mut [u32],
     view: u32,
     block: Block,
     first: Candidate,
@@ -39,7 +44,9 @@ pub fn open_and_try(
     second: Candidate,
     secondBytes: &[u8],
 ) -> Visit
-    ensures { λ r. ⌜ Visited settings (planes.pictures (now (left .entry)) (now (right .entry)) (now (reference .entry))) (planes.depths (now (leftDepths .entry)) (now (rightDepths .entry))) view block first (now (firstBytes .entry)) second (now (secondBytes .entry)) r ⌝ }
+    ensures { λ r. ⌜ Visited settings (planes.pictures (now (left .entry)) (now (right .entry)) (now (reference .entry)))
+        (planes.depths (now (leftDepths .entry)) (now (rightDepths .entry))) (now (journal .entry))
+        view block first (now (firstBytes .entry)) second (now (secondBytes .entry)) r ⌝ }
 {
     let opened = open::open(
         settings,
@@ -57,6 +64,7 @@ pub fn open_and_try(
         rightLimits,
         rightMarks,
         combined,
+        journal,
     );
     let refusal = opened.refusal;
     let none = Trial {
@@ -69,6 +77,8 @@ pub fn open_and_try(
             tried: none,
             chosen: none,
             again: none,
+            taken: none,
+            last: none,
         };
     }
     let start = opened.settings;
@@ -109,6 +119,7 @@ pub fn open_and_try(
         rightLimits,
         rightMarks,
         combined,
+        journal,
         view,
         block,
         second,
@@ -136,16 +147,64 @@ pub fn open_and_try(
         first,
         firstBytes,
     );
-    let answer = edited.refusal;
-    let change = edited.change;
+    let back = take_back::take_back(
+        next,
+        left,
+        right,
+        reference,
+        leftDepths,
+        rightDepths,
+        leftSamples,
+        leftFronts,
+        leftLimits,
+        leftMarks,
+        rightSamples,
+        rightFronts,
+        rightLimits,
+        rightMarks,
+        combined,
+        journal,
+    );
+    let restored = back.settings;
+    let last = get::get(
+        restored,
+        left,
+        right,
+        reference,
+        leftDepths,
+        rightDepths,
+        leftSamples,
+        leftFronts,
+        leftLimits,
+        leftMarks,
+        rightSamples,
+        rightFronts,
+        rightLimits,
+        rightMarks,
+        combined,
+        view,
+        block,
+        first,
+        firstBytes,
+    );
+    let setRefusal = edited.refusal;
+    let setChange = edited.change;
     let chosen = Trial {
-        refusal: answer,
-        change: change,
+        refusal: setRefusal,
+        change: setChange,
+    };
+    let backRefusal = back.refusal;
+    let backChange = back.change;
+    let taken = Trial {
+        refusal: backRefusal,
+        change: backChange,
     };
     Visit {
         opened: refusal,
         tried: tried,
         chosen: chosen,
         again: again,
+        taken: taken,
+        last: last,
     }
 }

@@ -6,11 +6,13 @@ use Rattle.model.specs.Views.{seen, viewRow}
 use Rattle.model.specs.Combined.{shared, bothShown, bothHoles, combinedOf, squareError}
 use Rattle.model.specs.Fresh.{freshRow, freshSample, freshCombined, totalOf, freshTotal}
 use Rattle.model.specs.Candidates.{cross, inRegion1, filled, onBorder, sideShared, lineOk}
-use Rattle.model.specs.Blocks.{inBlock, writtenPlane, written, changeOf}
-use Rattle.model.specs.Refusals.{blockOk, candidateThen, ownThen}
-use Rattle.run.specs.Run.{plainNext, plainAnswer, plainReply}
-use Rattle.cases.specs.Cases.{identity, four, settings, opening, images, cases, same, holdsFrom, holds, allHold}
+use Rattle.model.specs.Blocks.{inBlock, writtenPlane, written, blockDepths, changeOf}
+use Rattle.model.specs.Journals.{recordDepths, nextIndex, withNewest, saved}
+use Rattle.model.specs.Refusals.{upTo, blockOk, recordOk, chainOk, journalOk, roomOk, candidateThen, ownThen, savingThen, takingThen}
+use Rattle.run.specs.Run.{plainNumber, plainNext, plainAnswer, plainReply}
+use Rattle.run.specs.Shared.{inTurn, struck, sharedNumber, accepted, sharedNext, sharedChange, sharedReply}
+use Rattle.cases.specs.Cases.{identity, four, settings, opening, images, cases, same, holdsFrom, keptFrom, holds, allHold}
 
 pub cases-hold : T (allHold cases)
-unfolding identity four settings opening images cases same holdsFrom holds allHold listFrom rows rowOf sumTo place least limit owner kindOf stepOf taps1 taps2 taps3 repeated sampleIn read weighted filtered mixed smoothPixel tornPixel lastPixel pairPixel ownedPixel placedAt nearEdge shownPixel pixelAt limitAt leftRow seen viewRow shared bothShown bothHoles combinedOf squareError freshRow freshSample freshCombined totalOf freshTotal inBlock writtenPlane written changeOf cross inRegion1 filled onBorder sideShared lineOk blockOk candidateThen ownThen plainNext plainAnswer plainReply
+unfolding identity four settings opening images cases same holdsFrom keptFrom holds allHold listFrom rows rowOf sumTo place least limit owner kindOf stepOf taps1 taps2 taps3 repeated sampleIn read weighted filtered mixed smoothPixel tornPixel lastPixel pairPixel ownedPixel placedAt nearEdge shownPixel pixelAt limitAt leftRow seen viewRow shared bothShown bothHoles combinedOf squareError freshRow freshSample freshCombined totalOf freshTotal inBlock writtenPlane written blockDepths changeOf recordDepths nextIndex withNewest saved cross inRegion1 filled onBorder sideShared lineOk upTo blockOk recordOk chainOk journalOk roomOk candidateThen ownThen savingThen takingThen plainNumber plainNext plainAnswer plainReply inTurn struck sharedNumber accepted sharedNext sharedChange sharedReply
 cases-hold = tt

@@ -1,11 +1,11 @@
 -- The definitions that the small rows do not reach compute too: packed marks, hole counts, every filter, near edges, filled blocks and lines, and, on
--- the session of document 01 (4 × 1, depths 0), spans, refusals and CHECK's report.
+-- the session of document 01 (4 × 1, depths 0), spans, refusals, also those of a journal, and CHECK's report.
 use Prim.Native.Nat.{ℕ}
 use mathlib.Core.Path.{_≡_, refl}
 use mathlib.Core.Bool.{Bool, true, false}
 use mathlib.Core.List.{List, [], _∷_}
 use lib.ListN.{length}
-use lib.IntN.{pos}
+use lib.IntN.{ℤ, pos}
 use Rattle.model.specs.declared.Settings.{Settings}
 use Rattle.model.specs.declared.Block.{Block}
 use Rattle.model.specs.declared.Point.{Point}
@@ -15,17 +15,18 @@ use Rattle.model.specs.declared.Candidate.the-variants.{Full, Flat, Regions}
 use Rattle.model.specs.declared.Report.{Report}
 use Rattle.model.specs.declared.Report.the-variants.{Sound, Difference, Total}
 use Rattle.model.specs.Lists.{listOf, listFrom, rows, rowOf, sumTo}
-use Rattle.model.specs.Row.{Row, line, place, least, limit, owner, kindOf, stepOf, taps1, taps2, taps3, repeated, sampleIn, read, weighted, filtered, mixed, smoothPixel, tornPixel, lastPixel, pairPixel, ownedPixel, placedAt, nearEdge, shownPixel, pixelAt, limitAt, leftRow}
+use Rattle.model.specs.Row.{Row, line, neg, place, least, limit, owner, kindOf, stepOf, taps1, taps2, taps3, repeated, sampleIn, read, weighted, filtered, mixed, smoothPixel, tornPixel, lastPixel, pairPixel, ownedPixel, placedAt, nearEdge, shownPixel, pixelAt, limitAt, leftRow}
 use Rattle.model.specs.Views.{seen, viewRow, entryOf}
 use Rattle.model.specs.Marks.{packByte, packRow, rowHoles, holesIn}
 use Rattle.model.specs.Combined.{shared, bothShown, bothHoles, combinedOf, squareError}
-use Rattle.model.specs.Planes.{Depths, View, depths, view, held, withTotal}
+use Rattle.model.specs.Planes.{Depths, View, Held, pictures, depths, view, held, withTotal}
 use Rattle.model.specs.Fresh.{freshRow, freshView, freshSample, freshCombined, fresh, totalOf, freshTotal}
 use Rattle.model.specs.Span.{leastEdited, spanLow, spanHigh, inSpan, firstColumn, placesOf, spanHas, limitMoves}
 use Rattle.model.specs.Reports.{sameMark, sameView, sameAt, firstBad, firstDifference, reportOf}
 use Rattle.model.specs.Candidates.{cross, inRegion1, filled, onBorder, sideShared, lineOk}
-use Rattle.model.specs.Refusals.{blockOk, candidateThen, ownThen}
-use Rattle.cases.specs.Cases.{identity, four, settings, opening, images}
+use Rattle.model.specs.Journals.{recordDepths, nextIndex}
+use Rattle.model.specs.Refusals.{sideOk, sizeOk, picturesSized, depthsSized, viewSized, heldSized, planesSized, upTo, tablesOk, blockOk, candidateThen, inRange, recordOk, chainOk, journalOk, roomOk, picturesOk, commonThen, ownThen, savingThen, takingThen, openNumber, setNumber, takeBackNumber}
+use Rattle.cases.specs.Cases.{identity, four, settings, opening, images, junk, saves}
 
 abbrev block : ℕ → ℕ → ℕ → ℕ → Block
 block column row width height = record { column = column; row = row; width = width; height = height }
@@ -217,3 +218,39 @@ reports :
     × (report (withTotal (settings 1) 1) (0 ∷ []) four ≡ Total)
 unfolding report reportOf firstDifference firstBad sameAt sameView sameMark fresh freshView freshRow freshSample freshCombined totalOf freshTotal viewRow seen leftRow limitAt pixelAt shownPixel nearEdge placedAt ownedPixel pairPixel lastPixel tornPixel smoothPixel mixed filtered weighted repeated sampleIn read taps1 taps2 taps3 stepOf kindOf owner limit least place listFrom rows rowOf sumTo packRow packByte shared bothShown bothHoles combinedOf squareError settings opening images four identity
 reports = (refl, refl, refl, refl)
+
+-- ---- the journal's refusals: 8, 13, 11 in SET, 13, 12, 8 in TAKE BACK, 4, 13, 21 in OPEN. A journal of no words has 13, 11 and 12 at once, word 0 alone 11
+-- and 12; a change of -1 leads below 0. OPEN looks at no record.
+
+abbrev lent : Held
+lent = held drawn drawn four
+
+abbrev setting : List ℕ → ℤ → ℕ
+setting j change = setNumber (settings 1) (images 1) (opening 1) lent j 0 (block 2 0 1 1) Full 1 change
+
+abbrev taking : List ℕ → ℤ → ℕ
+taking j change = takeBackNumber (settings 1) (images 1) (opening 1) lent j change
+
+-- share, a sample of the left texture, journal
+abbrev starting : ℕ → ℕ → List ℕ → ℕ
+starting share sample j =
+    openNumber (record { w = 4; h = 1; left = identity; right = identity; share = share; tolerance = 255; total = 0 })
+    (pictures (10 ∷ 20 ∷ 30 ∷ sample ∷ []) four four) (opening 1) lent j
+
+journal-order :
+    (setting [] (neg 1) ≡ 8)
+    × (setting [] (pos 0) ≡ 13)
+    × (setting (0 ∷ []) (neg 1) ≡ 8)
+    × (setting (0 ∷ []) (pos 0) ≡ 11)
+    × (setting (0 ∷ junk 6) (pos 0) ≡ 11)
+    × (setting (0 ∷ junk 7) (pos 0) ≡ 0)
+    × (taking [] (neg 1) ≡ 13)
+    × (taking (0 ∷ []) (neg 1) ≡ 12)
+    × (taking (1 ∷ saves 0 4 []) (neg 1) ≡ 8)
+    × (taking (1 ∷ saves 0 4 []) (pos 0) ≡ 0)
+    × (starting 65 1024 [] ≡ 4)
+    × (starting 64 1024 [] ≡ 13)
+    × (starting 64 1024 (9 ∷ []) ≡ 21)
+    × (starting 64 1023 (9 ∷ []) ≡ 0)
+unfolding commonThen sizeOk sideOk planesSized picturesSized depthsSized viewSized heldSized tablesOk upTo picturesOk ownThen blockOk candidateThen inRange savingThen takingThen journalOk chainOk recordOk recordDepths roomOk nextIndex listFrom rows settings opening images four identity
+journal-order = (refl, refl, refl, refl, refl, refl, refl, refl, refl, refl, refl, refl, refl, refl)

@@ -1,8 +1,8 @@
--- Document 01, "Small rows and sessions": cases a to m, in one table; d, e, f, k and m as document 02, card 2, has them, and cases of cards 6
+-- Document 01, "Small rows and sessions": cases a to m, in one table; d, e, f, k and m as document 02, card 2, has them, and cases of cards 3, 6
 -- and 7.
 use Prim.Native.Nat.{ℕ}
 use Prim.Native.String.{String}
-use mathlib.Core.Bool.{Bool, true, false, _&&_}
+use mathlib.Core.Bool.{Bool, true, false, not, _&&_}
 use mathlib.Core.List.{List, [], _∷_}
 use lib.Dec.{eqb}
 use lib.IntN.{ℤ, pos}
@@ -19,19 +19,31 @@ use Rattle.model.specs.Views.{viewRow}
 use Rattle.model.specs.Combined.{combinedOf}
 use Rattle.model.specs.Planes.{Pictures, Depths, pictures, depths}
 use Rattle.model.specs.Fresh.{freshTotal}
+use Rattle.model.specs.Refusals.{journalOk}
 use Rattle.run.specs.Run.{Call, plainNext, plainReply}
 use Rattle.run.specs.Run.Call.{get, set}
+use Rattle.run.specs.Shared.{SharedCall, Plain, opened, inTurn, sharedNext, sharedReply}
 
 -- a call of a session and the change that it has to answer
 pub record Step : Type 0 where
   pub call : Call
   pub change : ℤ
 
--- A row of a view with its samples and marks; a combined sample; or a session's rows and calls with its last total.
+-- a call of a session with one journal; the number and change that it has to answer, and the total and the journal's words that it leaves
+pub record Kept : Type 0 where
+  pub call : SharedCall
+  pub number : ℕ
+  pub change : ℤ
+  pub total : ℕ
+  pub words : List ℕ
+
+-- A row of a view with its samples and marks; a combined sample; a session's rows and calls with its last total; a session with one journal; or a journal.
 pub data Case : Type 0 where
   row : String → Bool → List ℕ → List ℕ → List ℕ → List ℕ → Case
   mix : String → ℕ → ℕ → ℕ → ℕ → ℕ → ℕ → ℕ → Case
   session : String → ℕ → List Step → ℕ → Case
+  journaled : String → List ℕ → List Kept → Case
+  journal : String → List ℕ → Bool → Case
 
 -- Table: entry d is d. Texture 10 20 30 40 unless said.
 unfoldable pub identity : List ℕ
@@ -53,12 +65,16 @@ opening h = depths (rows (λ y. zeros) h) (rows (λ y. zeros) h)
 unfoldable pub images : ℕ → Pictures
 images h = pictures (rows (λ y. four) h) (rows (λ y. four) h) (rows (λ y. four) h)
 
--- left view: block, candidate, bytes lent with it, change
+-- words of a journal that no record has
+abbrev pub junk : ℕ → List ℕ
+junk n = listOf (λ i. 9) n
+
+-- left view: block, candidate, bytes lent with it, change; a SET has a journal with room for one record of four depths
 abbrev tried : Block → Candidate → List ℕ → ℤ → Step
 tried b c x change = record { call = get 0 b c x; change = change }
 
 abbrev wrote : Block → Candidate → List ℕ → ℤ → Step
-wrote b c x change = record { call = set 0 b c x; change = change }
+wrote b c x change = record { call = set 0 b c x (0 ∷ junk 10); change = change }
 
 -- one column
 abbrev only : ℕ → Block
@@ -69,6 +85,18 @@ GET column depth change = tried (only column) Full (depth ∷ []) change
 
 abbrev SET : ℕ → ℕ → ℤ → Step
 SET column depth change = wrote (only column) Full (depth ∷ []) change
+
+-- the same with one journal: a SET of column 2 in the left view, and TAKE BACK; number, change, total and words
+abbrev SETS : ℕ → ℕ → ℤ → ℕ → List ℕ → Kept
+SETS depth number change total words =
+    record { call = SharedCall.set 0 (only 2) Full (depth ∷ []); number = number; change = change; total = total; words = words }
+
+abbrev BACK : ℕ → ℤ → ℕ → List ℕ → Kept
+BACK number change total words = record { call = SharedCall.takeBack; number = number; change = change; total = total; words = words }
+
+-- a record of column 2 in the left view: index of the one before, old depth, the words that follow
+abbrev pub saves : ℕ → ℕ → List ℕ → List ℕ
+saves before old words = before ∷ 0 ∷ 2 ∷ 0 ∷ 1 ∷ 1 ∷ old ∷ words
 
 -- the whole row, and the last two columns of two rows
 abbrev whole : Block
@@ -85,7 +113,8 @@ abbrev reversed : Split
 reversed = Line (record { column = 1; row = 1 }) (record { column = 0; row = 0 })
 
 -- row: view, texture, depths, samples, marks; mix: share, tolerance, left and right depth, left and right sample, combined;
--- session: rows, calls with their changes, the total at the end
+-- session: rows, calls with their changes, the total at the end; journaled: the words lent to OPEN, calls with what they answer and leave; journal: words,
+-- and whether 13 leaves them alone
 unfoldable pub cases : List Case
 cases =
     row "a" false (50 ∷ []) (0 ∷ []) (50 ∷ []) (0 ∷ [])
@@ -111,6 +140,33 @@ cases =
     ∷ row "card 7" false four (0 ∷ 0 ∷ 7 ∷ 0 ∷ []) (30 ∷ 40 ∷ 40 ∷ 40 ∷ []) (0 ∷ 1 ∷ 1 ∷ 0 ∷ [])
     ∷ row "card 7, right view" true four (0 ∷ 7 ∷ 0 ∷ 0 ∷ []) (10 ∷ 10 ∷ 10 ∷ 20 ∷ []) (0 ∷ 1 ∷ 1 ∷ 0 ∷ [])
     ∷ session "card 7, an edge two columns right of the block" 1 (SET 3 11 (pos 900) ∷ SET 1 3 (neg 900) ∷ GET 1 0 (pos 900) ∷ []) 0
+    ∷ journaled "card 3" (junk 16)
+    (SETS 4 0 (pos 136) 136 (1 ∷ saves 0 0 (junk 8))
+    ∷ SETS 5 0 (neg 36) 100 (8 ∷ saves 0 0 (saves 1 4 (junk 1)))
+    ∷ BACK 0 (pos 36) 136 (1 ∷ saves 0 0 (saves 1 4 (junk 1)))
+    ∷ BACK 0 (neg 136) 0 (0 ∷ saves 0 0 (saves 1 4 (junk 1)))
+    ∷ BACK 12 (pos 0) 0 (0 ∷ saves 0 0 (saves 1 4 (junk 1)))
+    ∷ SETS 5 0 (pos 100) 100 (1 ∷ saves 0 0 (saves 1 4 (junk 1)))
+    ∷ [])
+    ∷ journaled "card 3, a word short" (junk 14)
+    (SETS 4 0 (pos 136) 136 (1 ∷ saves 0 0 (junk 6))
+    ∷ SETS 5 11 (pos 0) 136 (1 ∷ saves 0 0 (junk 6))
+    ∷ BACK 0 (neg 136) 0 (0 ∷ saves 0 0 (junk 6))
+    ∷ [])
+    ∷ journal "no words" [] false
+    ∷ journal "no record" (0 ∷ junk 1) true
+    ∷ journal "one record" (1 ∷ saves 0 4 []) true
+    ∷ journal "a gap before a record" (3 ∷ 9 ∷ 9 ∷ saves 0 4 []) true
+    ∷ journal "overlapping records" (8 ∷ 0 ∷ 0 ∷ 0 ∷ 0 ∷ 4 ∷ 1 ∷ 7 ∷ saves 1 4 []) true
+    ∷ journal "junk beyond the newest record" (1 ∷ saves 0 4 (junk 2)) true
+    ∷ journal "a chain that stands still" (1 ∷ saves 1 4 []) false
+    ∷ journal "a chain that rises" (1 ∷ saves 8 4 (saves 0 4 [])) false
+    ∷ journal "a record past the end" (1 ∷ 0 ∷ 0 ∷ 2 ∷ 0 ∷ 1 ∷ 1 ∷ []) false
+    ∷ journal "an empty block" (1 ∷ 0 ∷ 0 ∷ 2 ∷ 0 ∷ 0 ∷ 1 ∷ []) false
+    ∷ journal "a block past an edge" (1 ∷ 0 ∷ 0 ∷ 3 ∷ 0 ∷ 2 ∷ 1 ∷ 4 ∷ 4 ∷ []) false
+    ∷ journal "view 2" (1 ∷ 0 ∷ 2 ∷ 2 ∷ 0 ∷ 1 ∷ 1 ∷ 4 ∷ []) false
+    ∷ journal "depth 256" (1 ∷ saves 0 256 []) false
+    ∷ journal "depth 256 in the record before" (8 ∷ saves 0 256 (saves 1 4 [])) false
     ∷ []
 
 -- ---- the test
@@ -131,11 +187,27 @@ holdsFrom h d (k ∷ ks) total =
     (eqb (plainReply (settings h) (images h) d (k .call) .number) 0 && sameChange (plainReply (settings h) (images h) d (k .call) .change) (k .change))
     && holdsFrom h (plainNext (settings h) d (k .call)) ks total
 
+-- each call answers its number and change, and leaves its total and words
+unfoldable pub keptFrom : Plain → List Kept → Bool
+keptFrom r [] = true
+keptFrom r (k ∷ ks) =
+    let reply = sharedReply (settings 1) (images 1) (opening 1) r (k .call) in
+    let next = sharedNext (settings 1) (opening 1) r (k .call) in
+    (eqb (reply .number) (k .number) && sameChange (reply .change) (k .change))
+    && (eqb (freshTotal (settings 1) (images 1) (inTurn (settings 1) (opening 1) (next .standing))) (k .total) && same (next .journal) (k .words))
+    && keptFrom next ks
+
+abbrev agree : Bool → Bool → Bool
+agree true b = b
+agree false b = not b
+
 unfoldable pub holds : Case → Bool
 holds (row name right texture depths samples marks) =
     same (viewRow right (line identity texture depths) .samples) samples && same (viewRow right (line identity texture depths) .marks) marks
 holds (mix name share tolerance ld rd ls rs combined) = eqb (combinedOf share tolerance (pixel ls 0 ld) (pixel rs 0 rd)) combined
 holds (session name h steps total) = holdsFrom h (opening h) steps total
+holds (journaled name words steps) = keptFrom (opened words) steps
+holds (journal name words sound) = agree (journalOk (settings 1) words) sound
 
 unfoldable pub allHold : List Case → Bool
 allHold [] = true

@@ -132,10 +132,10 @@ module _ {right : Bool} {t : List ℕ} {share tolerance w h : ℕ} {b : Block} {
   row-written : (k : ℕ) → k < h → rowOf d w k ≡ rowOf (writtenPlane w b candidate d₀) w k
   row-written k l =
       ⊎-elim
-      (λ u. through .unwritten k (inl u) ∙ sym (written-row-out w b candidate d₀ k (row-in w h k (length d₀) l start) (rows-under b k u)))
+      (λ u. through .unwritten k (inl u) ∙ sym (written-row-out w b candidate d₀ k (rows-under b k u)))
       (λ u. ⊎-elim
       (λ m. through .written k u m)
-      (λ m. through .unwritten k (inr m) ∙ sym (written-row-out w b candidate d₀ k (row-in w h k (length d₀) l start) (rows-beyond b k m)))
+      (λ m. through .unwritten k (inr m) ∙ sym (written-row-out w b candidate d₀ k (rows-beyond b k m)))
       (lt-or-le k (b .row + b .height)))
       (lt-or-le k (b .row))
 

@@ -30,9 +30,9 @@ pub record Tried (s : Settings) (p : Pictures) (d : Depths) (h : Held) (v : ℕ)
   pub new-most : new ≤ worst * 16777216
   pub change : readHeld h ≡ fresh s p d → freshTotal s p (written s v b c d) + old ≡ freshTotal s p d + new
 
--- 8 judged by two such sums: the total moved by their difference, or as it was.
-pub record Judged (total old new most : ℕ) (r : Decision) : Type 0 where
-  pub number : numberOf (r .refusal) ≡ unless (within (pos total +ℤ subℕ new old) most) 8 0
+-- 8 judged by two such sums, then the rest of the call's list: the total moved by their difference, or as it was.
+pub record Judged (total old new most rest : ℕ) (r : Decision) : Type 0 where
+  pub number : numberOf (r .refusal) ≡ unless (within (pos total +ℤ subℕ new old) most) 8 rest
   pub change : numberOf (r .refusal) ≡ 0 → r .change ≡ subℕ new old
   pub moved : numberOf (r .refusal) ≡ 0 → r .total ≡ natAbs (pos total +ℤ subℕ new old)
   pub refused : (numberOf (r .refusal) ≡ 0 → ⊥) → r .change ≡ pos 0

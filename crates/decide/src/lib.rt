@@ -1,4 +1,4 @@
-// What GET and SET decide: the first refusal that applies, or the change of the total. GET calls `decide`; SET picks the view first and calls `judge`.
+// What GET and SET decide: the first refusal that applies, or the change of the total. GET calls `decide`; SET and TAKE BACK pick the view first and call `judge` or `judge_then`.
 use model::Block;
 use model::Candidate;
 use model::Refusal;
@@ -15,7 +15,7 @@ ghost use Rattle.model.specs.Views.{isRight};
 ghost use Rattle.model.specs.Combined.{worst};
 ghost use Rattle.model.specs.Planes.{pictures, depths};
 ghost use Rattle.model.specs.Candidates.{filled};
-ghost use Rattle.model.specs.Refusals.{earlyNumber};
+ghost use Rattle.model.specs.Refusals.{numberOf, earlyNumber};
 ghost use Rattle.fill.specs.Rows.{isLent};
 ghost use Rattle.decide.specs.Decided.{settingsOf, heldOf, Tried, Judged, Decided};
 
@@ -48,7 +48,7 @@ pub fn most_total(w: u32, h: u32) -> u64
 // 8 where the total with the change is out of range, else the change.
 pub fn judge(total: u64, old: u64, new: u64, most: u64) -> Decision
     requires { ⌜ (old ≤ worst * 16777216) × ((new ≤ worst * 16777216) × (most ≤ worst * 16777216)) ⌝ }
-    ensures { λ r. ⌜ Judged total old new most r ⌝ }
+    ensures { λ r. ⌜ Judged total old new most 0 r ⌝ }
 {
     if !signed::in_range(total, old, new, most) {
         return refused(Refusal::Total, total);
@@ -60,6 +60,22 @@ pub fn judge(total: u64, old: u64, new: u64, most: u64) -> Decision
         change: change,
         total: moved,
     }
+}
+
+// 8, else the refusal `late`, else the change.
+pub fn judge_then(total: u64, old: u64, new: u64, most: u64, late: Refusal) -> Decision
+    requires { ⌜ (old ≤ worst * 16777216) × ((new ≤ worst * 16777216) × (most ≤ worst * 16777216)) ⌝ }
+    ensures { λ r. ⌜ Judged total old new most (numberOf late) r ⌝ }
+{
+    let decision = judge(total, old, new, most);
+    let refusal = decision.refusal;
+    if model::number(refusal) != 0 {
+        return decision;
+    }
+    if model::number(late) != 0 {
+        return refused(late, total);
+    }
+    decision
 }
 
 // View 1 is the right view.

@@ -1,14 +1,16 @@
 -- Rows that are made in a room, of which the first entries are lent.
+--     room-holds, room-some         how many rows a room holds
 --     room-made                     what is not lent takes its room
 --     made-rows                     rows that were made are the block's rows
 --     started-part, started-back    the room stays started
 --     front-back                    the first entries, put back and lent again
-use Prim.Native.Nat.{ℕ, _+_, _-_, _*_, _<_, _≤_}
+use Prim.Native.Nat.{ℕ, _+_, _-_, _*_, _/_, _<_, _≤_}
 use mathlib.Core.Path.{_≡_, sym, ap, _∙_}
 use mathlib.Core.Bool.{false}
 use mathlib.Core.Logic.{⊎-elim}
 use mathlib.Core.List.{List, _++_}
 use native.Mathlib.Omega.{arith}
+use native.Mathlib.Nat.{mul-le-mul-right, div-mul-le-self, le-div-iff-mul-le}
 use lib.ListN.{length, getD, take, drop, length-append, length-drop, List·getD-append}
 use lib.Seq.{length-take-le, getD-take, getD-append-add, getD-drop, take-append-le, take-length}
 use Rattle.model.specs.declared.Block.{Block}
@@ -19,6 +21,13 @@ use Rattle.model.specs.Candidates.{filled}
 use Rattle.model.proofs.Choice.{lt-or-le}
 use Rattle.fill.specs.Rows.{isLent, roomOf, rowIn, Started, RowsMade}
 use Rattle.fill.proofs.Rows.{row-filled}
+
+-- a room of len entries holds len div w rows, and at least one
+pub room-holds : (n len w : ℕ) → n ≤ len / w → n * w ≤ len
+room-holds n len w h = omega (arith, mul-le-mul-right w h, div-mul-le-self len w)
+
+pub room-some : (len w : ℕ) → 1 ≤ w → w ≤ len → 0 < len / w
+room-some len w some h = le-div-iff-mul-le some .1 (omega arith)
 
 pub room-made : (c : Candidate) (n : ℕ) → isLent c ≡ false → roomOf c n ≡ n
 unfolding roomOf

@@ -6,7 +6,7 @@ use model::Report;
 use model::Settings;
 use shape::Shape;
 ghost use Rattle.model.specs.Planes as planes;
-ghost use Rattle.model.specs.Promises.{RenderPost, OpenPost, GetPost, SetPost, CheckPost, HolesPost};
+ghost use Rattle.model.specs.Promises.{RenderPost, OpenPost, GetPost, SetPost, TakeBackPost, CheckPost, HolesPost};
 ghost use Rattle.decide.specs.Decided.{settingsOf};
 ghost use Rattle.shape.specs.Shapes.{candidateOf, bytesOf};
 ghost use Rattle.luphwezane.specs.Exports.{Rendered, OpenedOut, TriedOut, EditedOut, ReportOut, CountOut};
@@ -48,11 +48,12 @@ pub extern "C" fn luph_raw_open(
     rightLimits: &mut [i16],
     rightMarks: &mut [u8],
     combined: &mut [u16],
+    journal: &mut [u32],
     total: &mut u64,
 ) -> u32
     ensures { λ r. ⌜ OpenedOut (OpenPost settings (planes.pictures (now (left .entry)) (now (right .entry)) (now (reference .entry))) (planes.depths (now (leftDepths .entry)) (now (rightDepths .entry)))
         (planes.held (planes.view (now (leftSamples .entry)) (now (leftFronts .entry)) (now (leftLimits .entry)) (now (leftMarks .entry))) (planes.view (now (rightSamples .entry)) (now (rightFronts .entry)) (now (rightLimits .entry)) (now (rightMarks .entry))) (now (combined .entry)))
-        (planes.held (planes.view (now (leftSamples .exit)) (now (leftFronts .exit)) (now (leftLimits .exit)) (now (leftMarks .exit))) (planes.view (now (rightSamples .exit)) (now (rightFronts .exit)) (now (rightLimits .exit)) (now (rightMarks .exit))) (now (combined .exit)))) r (now (total .entry)) (now (total .exit)) ⌝ }
+        (planes.held (planes.view (now (leftSamples .exit)) (now (leftFronts .exit)) (now (leftLimits .exit)) (now (leftMarks .exit))) (planes.view (now (rightSamples .exit)) (now (rightFronts .exit)) (now (rightLimits .exit)) (now (rightMarks .exit))) (now (combined .exit))) (now (journal .entry)) (now (journal .exit))) r (now (total .entry)) (now (total .exit)) ⌝ }
 {
     let opened = open::open(
         settings,
@@ -70,6 +71,7 @@ pub extern "C" fn luph_raw_open(
         rightLimits,
         rightMarks,
         combined,
+        journal,
     );
     let refusal = opened.refusal;
     let number = model::number(refusal);
@@ -168,6 +170,7 @@ pub extern "C" fn luph_raw_set(
     rightLimits: &mut [i16],
     rightMarks: &mut [u8],
     combined: &mut [u16],
+    journal: &mut [u32],
     view: u32,
     block: Block,
     shape: Shape,
@@ -177,7 +180,7 @@ pub extern "C" fn luph_raw_set(
 ) -> u32
     ensures { λ r. ⌜ EditedOut (SetPost settings (planes.pictures (now (left .entry)) (now (right .entry)) (now (reference .entry))) (planes.depths (now (leftDepths .entry)) (now (rightDepths .entry))) (planes.depths (now (leftDepths .exit)) (now (rightDepths .exit)))
         (planes.held (planes.view (now (leftSamples .entry)) (now (leftFronts .entry)) (now (leftLimits .entry)) (now (leftMarks .entry))) (planes.view (now (rightSamples .entry)) (now (rightFronts .entry)) (now (rightLimits .entry)) (now (rightMarks .entry))) (now (combined .entry)))
-        (planes.held (planes.view (now (leftSamples .exit)) (now (leftFronts .exit)) (now (leftLimits .exit)) (now (leftMarks .exit))) (planes.view (now (rightSamples .exit)) (now (rightFronts .exit)) (now (rightLimits .exit)) (now (rightMarks .exit))) (now (combined .exit))) view block (candidateOf shape) (bytesOf shape (now (bytes .entry)))) r (now (change .entry)) (now (change .exit)) (now (total .entry)) (now (total .exit)) ⌝ }
+        (planes.held (planes.view (now (leftSamples .exit)) (now (leftFronts .exit)) (now (leftLimits .exit)) (now (leftMarks .exit))) (planes.view (now (rightSamples .exit)) (now (rightFronts .exit)) (now (rightLimits .exit)) (now (rightMarks .exit))) (now (combined .exit))) (now (journal .entry)) (now (journal .exit)) view block (candidateOf shape) (bytesOf shape (now (bytes .entry)))) r (now (change .entry)) (now (change .exit)) (now (total .entry)) (now (total .exit)) ⌝ }
 {
     let n = shape::lent(shape.kind, bytes.len());
     let edited = set::set(
@@ -196,10 +199,66 @@ pub extern "C" fn luph_raw_set(
         rightLimits,
         rightMarks,
         combined,
+        journal,
         view,
         block,
         shape::candidate_of(shape),
         &bytes[..n],
+    );
+    let refusal = edited.refusal;
+    let number = model::number(refusal);
+    if number == 0 {
+        let next = edited.settings;
+        let found = edited.change;
+        *change = found;
+        *total = next.total;
+    }
+    number
+}
+
+// TAKE BACK; the change of the total goes to `change` and the new total to `total`.
+#[no_mangle]
+pub extern "C" fn luph_raw_take_back(
+    settings: Settings,
+    left: &[u16],
+    right: &[u16],
+    reference: &[u16],
+    leftDepths: &mut [u8],
+    rightDepths: &mut [u8],
+    leftSamples: &mut [u16],
+    leftFronts: &mut [u8],
+    leftLimits: &mut [i16],
+    leftMarks: &mut [u8],
+    rightSamples: &mut [u16],
+    rightFronts: &mut [u8],
+    rightLimits: &mut [i16],
+    rightMarks: &mut [u8],
+    combined: &mut [u16],
+    journal: &mut [u32],
+    change: &mut i64,
+    total: &mut u64,
+) -> u32
+    ensures { λ r. ⌜ EditedOut (TakeBackPost settings (planes.pictures (now (left .entry)) (now (right .entry)) (now (reference .entry))) (planes.depths (now (leftDepths .entry)) (now (rightDepths .entry))) (planes.depths (now (leftDepths .exit)) (now (rightDepths .exit)))
+        (planes.held (planes.view (now (leftSamples .entry)) (now (leftFronts .entry)) (now (leftLimits .entry)) (now (leftMarks .entry))) (planes.view (now (rightSamples .entry)) (now (rightFronts .entry)) (now (rightLimits .entry)) (now (rightMarks .entry))) (now (combined .entry)))
+        (planes.held (planes.view (now (leftSamples .exit)) (now (leftFronts .exit)) (now (leftLimits .exit)) (now (leftMarks .exit))) (planes.view (now (rightSamples .exit)) (now (rightFronts .exit)) (now (rightLimits .exit)) (now (rightMarks .exit))) (now (combined .exit))) (now (journal .entry)) (now (journal .exit))) r (now (change .entry)) (now (change .exit)) (now (total .entry)) (now (total .exit)) ⌝ }
+{
+    let edited = take_back::take_back(
+        settings,
+        left,
+        right,
+        reference,
+        leftDepths,
+        rightDepths,
+        leftSamples,
+        leftFronts,
+        leftLimits,
+        leftMarks,
+        rightSamples,
+        rightFronts,
+        rightLimits,
+        rightMarks,
+        combined,
+        journal,
     );
     let refusal = edited.refusal;
     let number = model::number(refusal);

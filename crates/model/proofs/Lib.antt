@@ -14,6 +14,7 @@ pub mod Totals
 pub mod Locality
 pub mod Refusals
 pub mod Candidates
+pub mod Journals
 pub mod Pairs
 pub mod Reports
 pub mod Readings

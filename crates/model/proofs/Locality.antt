@@ -60,7 +60,7 @@ module _ (s : Settings) (p : Pictures) (d : Depths) (v : ℕ) (b : Block) (c : L
   row-out y h e =
       row-same (isRight v) y
       (ap (λ (l : List ℕ). rowOf l (s .w) y) (written-own s v b c d)
-      ∙ written-row-out (s .w) b c (depthsOf d (isRight v)) y (row-fits (isRight v) y h) e)
+      ∙ written-row-out (s .w) b c (depthsOf d (isRight v)) y e)
 
   -- either view, where it is enough to look at the one that was written
   by-view : (P : Bool → Type 0) → P (isRight v) → P (not (isRight v)) → (q : Bool) → P q

@@ -22,14 +22,14 @@ use Rattle.model.specs.Row.{greatest, read, sampleIn}
 use Rattle.model.specs.Views.{seen, entryOf}
 use Rattle.model.specs.Planes.{Pictures, Depths, View, Held, held, view, viewOf, readAll, readView, readHeld}
 use Rattle.model.specs.Fresh.{freshRow, freshSample, freshView, freshCombined, fresh}
-use Rattle.model.specs.Refusals.{unless, pictureOk, picturesOk, openNumber}
+use Rattle.model.specs.Refusals.{wordsOk, unless, pictureOk, picturesOk, openNumber}
 use Rattle.model.specs.Promises.{Sound}
 use Rattle.model.proofs.Choice.{lt-or-le, and-left, and-right}
 use Rattle.model.proofs.Lists.{length-listOf, getD-listOf, list-of, getD-row, row-ext, plane-ext}
 use Rattle.model.proofs.Views.{getD-seen}
 use Rattle.model.proofs.Fresh.{DepthsSized, row-fresh-samples, length-fresh-samples, row-fresh-combined, length-fresh-combined}
 use Rattle.model.proofs.Totals.{read-most, read-same, shown-most, sample-most}
-use Rattle.model.proofs.Refusals.{unless-true, up-to-most, rest-passed}
+use Rattle.model.proofs.Refusals.{unless-true, unless-rest, up-to-most, rest-passed, common-before}
 
 pub length-readAll : (l : List ℕ) → length (readAll l) ≡ length l
 unfolding readAll
@@ -114,10 +114,10 @@ module _ (s : Settings) (p : Pictures) (d : Depths) (sized : DepthsSized s d) wh
     fresh-read = rw (samples-read false, samples-read true, combined-read)
 
     -- The pictures that OPEN accepted, and any drawing of them, have one reading.
-    pub opened-read : (g : Held) (e : Depths) → openNumber s p e g ≡ 0 → OneReading p (fresh s p d)
+    pub opened-read : (g : Held) (e : Depths) (j : List ℕ) → openNumber s p e g j ≡ 0 → OneReading p (fresh s p d)
     unfolding picturesOk
-    opened-read g e accepted =
-        let ok = unless-true (picturesOk p) 20 0 (rest-passed s p e g (unless (picturesOk p) 21 0) accepted) in
+    opened-read g e j accepted =
+        let ok = unless-true (picturesOk p) 20 0 (unless-rest (wordsOk j) 12 _ (rest-passed (common-before s p e g) (unless (wordsOk j) 13 (unless (picturesOk p) 21 0)) accepted)) in
         let rest = and-right (pictureOk (p .left)) _ ok in
         record {
           left = picture-read (p .left) (and-left (pictureOk (p .left)) _ ok);

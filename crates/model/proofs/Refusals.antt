@@ -24,7 +24,7 @@ use Rattle.model.specs.Marks.{markBytes}
 use Rattle.model.specs.Combined.{worst}
 use Rattle.model.specs.Planes.{Pictures, Depths, View, Held, area, withTotal}
 use Rattle.model.specs.Candidates.{positions, lineOk}
-use Rattle.model.specs.Refusals.{unless, sideOk, sizeOk, picturesSized, depthsSized, viewSized, heldSized, planesSized, upTo, tableOk, tablesOk, shareOk, blockOk, viewOk, candidateThen, within, inRange, picturesOk, commonThen, ownThen, openNumber, earlyNumber, callNumber}
+use Rattle.model.specs.Refusals.{unless, sideOk, sizeOk, picturesSized, depthsSized, viewSized, heldSized, planesSized, upTo, tableOk, tablesOk, shareOk, blockOk, viewOk, candidateThen, within, inRange, wordsOk, journalOk, roomOk, someRecord, picturesOk, commonThen, ownThen, savingThen, takingThen, openNumber, earlyNumber, callThen}
 use Rattle.model.proofs.Choice.{bool-cases, and-true, and-left, and-right}
 use Rattle.model.proofs.Fresh.{DepthsOf}
 
@@ -51,6 +51,28 @@ none-before = record { rest = λ k e. refl; stays = λ k ne. absurd (ne refl) }
 pub one-before : (t : Bool) (n : ℕ) (tests : ℕ → ℕ) → Before tests → Before (λ k. unless t (suc n) (tests k))
 one-before true n tests f = f
 one-before false n tests f = record { rest = λ k e. absurd (omega arith); stays = λ k ne. refl }
+
+module _ {f : ℕ → ℕ} (a : Before f) where
+  -- what is not refused has passed these tests, and then the rest
+  pub passed : (k : ℕ) → f k ≡ 0 → f 0 ≡ 0
+  passed k e = bool-cases (eqb (f 0) 0) (λ t. eqb-true (f 0) 0 t) (λ t. let ne = eqb-false (f 0) 0 t in sym (a .stays k ne) ∙ e)
+
+  pub rest-passed : (k : ℕ) → f k ≡ 0 → k ≡ 0
+  rest-passed k e = sym (a .rest k (passed k e)) ∙ e
+
+  -- other tests after these
+  pub then-before : {g : ℕ → ℕ} → Before g → Before (λ k. f (g k))
+  then-before {g = g} b =
+      record {
+        rest = λ k e. a .rest (g k) (passed (g 0) e) ∙ b .rest k (rest-passed (g 0) e);
+        stays = λ k ne.
+            bool-cases (eqb (f 0) 0)
+            (λ t.
+            let z = eqb-true (f 0) 0 t in
+            let same : f (g 0) ≡ g 0 = a .rest (g 0) z in
+            a .rest (g k) z ∙ b .stays k (λ q. ne (same ∙ q)) ∙ sym same)
+            (λ t. let z = eqb-false (f 0) 0 t in a .stays (g k) z ∙ sym (a .stays (g 0) z));
+      }
 
 -- ---- each test as plain facts
 
@@ -318,46 +340,50 @@ pub own-total : (s : Settings) (t v : ℕ) (b : Block) (c : Candidate) (n rest :
 unfolding ownThen blockOk
 own-total s t v b c n rest = refl
 
+-- 13 and 11; 13 and 12
+pub saving-before : (s : Settings) (b : Block) (j : List ℕ) → Before (savingThen s b j)
+unfolding savingThen
+saving-before s b j = one-before (journalOk s j) 12 _ (one-before (roomOk b j) 10 _ none-before)
+
+pub taking-before : (s : Settings) (j : List ℕ) → Before (takingThen s j)
+unfolding takingThen
+taking-before s j = one-before (journalOk s j) 12 _ (one-before (someRecord j) 11 _ none-before)
+
 module _ (s : Settings) (p : Pictures) (d : Depths) (h : Held) where
-  common-rest : (rest : ℕ) → commonThen s p d h 0 ≡ 0 → commonThen s p d h rest ≡ rest
-  common-rest = common-before s p d h .rest
+  -- OPEN's 13 and 21 come last
+  pub open-stays : (j : List ℕ) → (commonThen s p d h 0 ≡ 0 → ⊥) → openNumber s p d h j ≡ commonThen s p d h 0
+  open-stays j ne = common-before s p d h .stays _ ne
 
-  common-stays : (rest : ℕ) → (commonThen s p d h 0 ≡ 0 → ⊥) → commonThen s p d h rest ≡ commonThen s p d h 0
-  common-stays = common-before s p d h .stays
-
-  -- OPEN's 21 comes last
-  pub open-stays : (commonThen s p d h 0 ≡ 0 → ⊥) → openNumber s p d h ≡ commonThen s p d h 0
-  open-stays ne = common-stays (unless (picturesOk p) 21 0) ne
-
-  -- what is not refused has passed the common tests, and then the rest
+  -- what is not refused has passed the common tests
   pub common-passed : (rest : ℕ) → commonThen s p d h rest ≡ 0 → commonThen s p d h 0 ≡ 0
-  common-passed rest e =
-      bool-cases (eqb (commonThen s p d h 0) 0) (λ t. eqb-true _ _ t)
-      (λ f. let ne = eqb-false (commonThen s p d h 0) 0 f in sym (common-stays rest ne) ∙ e)
+  common-passed = passed (common-before s p d h)
 
-  pub rest-passed : (rest : ℕ) → commonThen s p d h rest ≡ 0 → rest ≡ 0
-  rest-passed rest e = sym (common-rest rest (common-passed rest e)) ∙ e
+  -- TAKE BACK's tests before 8
+  pub taken-before : (j : List ℕ) → Before (λ k. commonThen s p d h (takingThen s j k))
+  taken-before j = then-before (common-before s p d h) (taking-before s j)
 
   module _ (v : ℕ) (b : Block) (c : Candidate) (n : ℕ) where
+    -- what GET and SET refuse before 8
+    pub early-before : Before (λ k. commonThen s p d h (ownThen s v b c n k))
+    early-before = then-before (common-before s p d h) (own-before s v b c n)
+
     -- a call with no early refusal has passed the common tests, and its own
     pub early-common : earlyNumber s p d h v b c n ≡ 0 → commonThen s p d h 0 ≡ 0
     early-common e = common-passed (ownThen s v b c n 0) e
 
     pub early-own : earlyNumber s p d h v b c n ≡ 0 → ownThen s v b c n 0 ≡ 0
-    early-own e = rest-passed (ownThen s v b c n 0) e
+    early-own e = rest-passed (common-before s p d h) (ownThen s v b c n 0) e
 
-    -- with no early refusal, 8 decides
-    pub call-late : (x : ℤ) → earlyNumber s p d h v b c n ≡ 0 → callNumber s p d h v b c n x ≡ unless (inRange s x) 8 0
-    call-late x e = common-rest _ (early-common e) ∙ own-before s v b c n .rest _ (early-own e)
+    -- with no early refusal, 8 and the rest decide
+    pub call-late : (x : ℤ) (rest : ℕ) → earlyNumber s p d h v b c n ≡ 0 → callThen s p d h v b c n x rest ≡ unless (inRange s x) 8 rest
+    call-late x rest e = early-before .rest _ e
 
-    pub call-early : (x : ℤ) → (earlyNumber s p d h v b c n ≡ 0 → ⊥) → callNumber s p d h v b c n x ≡ earlyNumber s p d h v b c n
-    call-early x ne =
-        bool-cases (eqb (commonThen s p d h 0) 0)
-        (λ t.
-        let z = eqb-true (commonThen s p d h 0) 0 t in
-        let ne′ : ownThen s v b c n 0 ≡ 0 → ⊥ = λ q. ne (common-rest _ z ∙ q) in
-        common-rest _ z ∙ own-before s v b c n .stays _ ne′ ∙ sym (common-rest _ z))
-        (λ f. let z = eqb-false (commonThen s p d h 0) 0 f in common-stays _ z ∙ sym (common-stays _ z))
+    pub call-early : (x : ℤ) (rest : ℕ) → (earlyNumber s p d h v b c n ≡ 0 → ⊥) → callThen s p d h v b c n x rest ≡ earlyNumber s p d h v b c n
+    call-early x rest ne = early-before .stays _ ne
+
+    -- an accepted call passed every test before 8
+    pub call-zero : (x : ℤ) (rest : ℕ) → callThen s p d h v b c n x rest ≡ 0 → earlyNumber s p d h v b c n ≡ 0
+    call-zero x rest e = passed early-before (unless (inRange s x) 8 rest) e
 
 -- ---- 8
 

@@ -4,7 +4,9 @@
 --     written-row-out, written-row-in  a row outside the block stays; one of the block has the candidate's row in its columns
 --     written-edited                   as a view reads the row, an edit of the block's columns
 --     written-other, written-own       the other view's depths stay
-use Prim.Native.Nat.{ℕ, _+_, _-_, _*_, _<_, _≤_}
+--     old-at, old-back, written-back   the depths that stood in the block; written again, they restore the planes
+--     old-most                         they are at most what the plane's are
+use Prim.Native.Nat.{ℕ, _+_, _-_, _*_, _/_, _%_, _<_, _≤_}
 use mathlib.Core.Path.{_≡_, refl, sym, ap, _∙_}
 use mathlib.Core.Bool.{Bool, true, false, cond, _&&_, not}
 use mathlib.Core.Logic.{⊎-elim, _⊎_, inl, inr}
@@ -15,18 +17,20 @@ use lib.Arith.{digits-div, digits-mod}
 use lib.Dec.{leb}
 use lib.ListN.{length, getD, take, drop, length-append, length-drop, List·getD-append, List·getD-eq-default}
 use lib.Seq.{ext-getD, length-take-le, getD-append-add, getD-take, getD-drop}
-use borrow.Author.Tests.{lt-ltb, le-ltb, le-leb, lt-leb}
+use borrow.Author.Tests.{lt-ltb, le-ltb, le-leb, lt-leb, leb-true, ltb-true}
 use Rattle.model.specs.declared.Settings.{Settings}
 use Rattle.model.specs.declared.Block.{Block}
 use Rattle.model.specs.Lists.{rowOf}
 use Rattle.model.specs.Views.{isRight, seen, entryOf}
 use Rattle.model.specs.Planes.{Depths, depthsOf, withTotal}
-use Rattle.model.specs.Blocks.{inRows, inColumns, inBlock, candidateAt, writtenPlane, written}
+use Rattle.model.specs.Candidates.{positions}
+use Rattle.model.specs.Blocks.{inRows, inColumns, inBlock, candidateAt, writtenPlane, written, blockDepths, oldDepths}
 use Rattle.model.specs.Span.{firstColumn}
-use Rattle.model.proofs.Choice.{bool-cases, lt-or-le, and-true}
-use Rattle.model.proofs.Lists.{length-listOf, getD-listOf, length-row, getD-row, row-ext, rows-apart}
+use Rattle.model.proofs.Choice.{bool-cases, lt-or-le, and-true, and-left, and-right}
+use Rattle.model.proofs.Lists.{length-listOf, getD-listOf, length-row, getD-row, row-ext, plane-ext, rows-apart, entry-fits}
 use Rattle.model.proofs.Views.{length-seen, getD-seen}
 use Rattle.model.proofs.Spans.{EditedRow}
+use Rattle.model.proofs.Fresh.{DepthsSized}
 
 pub written-total : (s : Settings) (t v : ℕ) (b : Block) (c : List ℕ) (d : Depths) → written (withTotal s t) v b c d ≡ written s v b c d
 unfolding written
@@ -52,9 +56,9 @@ module _ (w : ℕ) (b : Block) (c plane : List ℕ) where
   unfolding inBlock
   written-at y x h k = entry (y * w + x) k ∙ rw (digits-div y h, digits-mod y h)
 
-  pub written-row-out : (y : ℕ) → y * w + w ≤ length plane → inRows b y ≡ false → rowOf (writtenPlane w b c plane) w y ≡ rowOf plane w y
-  written-row-out y h e =
-      row-ext 0 (writtenPlane w b c plane) plane w y length-written (λ x k. written-at y x k (omega arith) ∙ rw e)
+  pub written-row-out : (y : ℕ) → inRows b y ≡ false → rowOf (writtenPlane w b c plane) w y ≡ rowOf plane w y
+  unfolding inBlock
+  written-row-out y e = row-ext 0 (writtenPlane w b c plane) plane w y length-written (λ x h. written-out (y * w + x) (rw (digits-div y h, e)))
 
 -- the tests of a block's rows and columns
 pub rows-yes : (b : Block) (y : ℕ) → b .row ≤ y → y < b .row + b .height → inRows b y ≡ true
@@ -203,3 +207,55 @@ module _ (s : Settings) (v : ℕ) (b : Block) (c : List ℕ) (d : Depths) where
   pub written-right : length (written s v b c d .right) ≡ length (d .right)
   unfolding written
   written-right = bool-cases (isRight v) (λ e. rw e (length-written (s .w) b c (d .right))) (λ e. rw e)
+
+-- ---- the depths that stood in the block (document 02, card 3)
+
+pub length-old : (w : ℕ) (b : Block) (plane : List ℕ) → length (blockDepths w b plane) ≡ positions b
+unfolding blockDepths
+length-old w b plane = length-listOf _ (positions b)
+
+-- what stood at column x of row y of the block
+pub old-at : (w : ℕ) (b : Block) (plane : List ℕ) (y x : ℕ) → y < b .height → x < b .width → getD (blockDepths w b plane) (y * b .width + x) 0 ≡ getD plane ((b .row + y) * w + (b .column + x)) 0
+unfolding blockDepths
+old-at w b plane y x h k =
+    getD-listOf 0 (λ k. getD plane ((b .row + k / b .width) * w + (b .column + k % b .width)) 0) (positions b) (y * b .width + x)
+    (omega (arith, entry-fits (b .width) (b .height) y x h k, mul-comm (b .height) (b .width)))
+    ∙ rw (digits-div y k, digits-mod y k)
+
+pub old-most : (w : ℕ) (b : Block) (plane : List ℕ) (most : ℕ) → ((i : ℕ) → getD plane i 0 ≤ most) → (i : ℕ) → getD (blockDepths w b plane) i 0 ≤ most
+unfolding blockDepths
+old-most w b plane most h i =
+    let f : ℕ → ℕ = λ k. getD plane ((b .row + k / b .width) * w + (b .column + k % b .width)) 0 in
+    ⊎-elim (λ l. rw (getD-listOf 0 f (positions b) i l) (h _))
+    (λ l. rw (List·getD-eq-default (blockDepths w b plane) 0 {n = i} (rw (length-old w b plane) l)) (omega arith)) (lt-or-le i (positions b))
+
+-- Written again after anything else, they restore the plane.
+pub old-back : (w h : ℕ) (b : Block) (c plane : List ℕ) → length plane ≡ h * w → writtenPlane w b (blockDepths w b plane) (writtenPlane w b c plane) ≡ plane
+old-back w h b c plane e =
+    plane-ext 0 w h (writtenPlane w b (blockDepths w b plane) (writtenPlane w b c plane)) plane
+    (length-written w b (blockDepths w b plane) (writtenPlane w b c plane) ∙ length-written w b c plane ∙ e) e
+    (λ y k. row-ext 0 (writtenPlane w b (blockDepths w b plane) (writtenPlane w b c plane)) plane w y
+    (length-written w b (blockDepths w b plane) (writtenPlane w b c plane) ∙ length-written w b c plane)
+    (λ x m.
+    let i : y * w + x < length plane = omega (arith, entry-fits w h y x k m, e) in
+    written-at w b (blockDepths w b plane) (writtenPlane w b c plane) y x m (rw (length-written w b c plane) i)
+    ∙ bool-cases (inRows b y && inColumns b x)
+    (λ t.
+    let r = and-left (inRows b y) _ t in
+    let q = and-right (inRows b y) _ t in
+    let a = leb-true (b .row) y (and-left (leb (b .row) y) _ r) in
+    let z = ltb-true y (b .row + b .height) (and-right (leb (b .row) y) _ r) in
+    let a′ = leb-true (b .column) x (and-left (leb (b .column) x) _ q) in
+    let z′ = ltb-true x (b .column + b .width) (and-right (leb (b .column) x) _ q) in
+    let u : b .row + (y - b .row) ≡ y = omega arith in
+    let u′ : b .column + (x - b .column) ≡ x = omega arith in
+    rw t (old-at w b plane (y - b .row) (x - b .column) (omega arith) (omega arith) ∙ rw (u, u′)))
+    (λ f. rw f (written-at w b c plane y x m i ∙ rw f))))
+
+-- the same of both views' planes
+pub written-back : (s : Settings) (v : ℕ) (b : Block) (c : List ℕ) (d : Depths) → DepthsSized s d → written s v b (oldDepths s v b d) (written s v b c d) ≡ d
+unfolding written
+written-back s v b c d z =
+    bool-cases (isRight v)
+    (λ t. rw (t, old-back (s .w) (s .h) b c (d .right) (z .right ∙ mul-comm (s .w) (s .h))))
+    (λ f. rw (f, old-back (s .w) (s .h) b c (d .left) (z .left ∙ mul-comm (s .w) (s .h))))

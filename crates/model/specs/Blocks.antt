@@ -9,7 +9,8 @@ use Rattle.model.specs.declared.Settings.{Settings}
 use Rattle.model.specs.declared.Block.{Block}
 use Rattle.model.specs.Lists.{listOf}
 use Rattle.model.specs.Views.{isRight}
-use Rattle.model.specs.Planes.{Pictures, Depths, depths}
+use Rattle.model.specs.Planes.{Pictures, Depths, depths, depthsOf}
+use Rattle.model.specs.Candidates.{positions}
 use Rattle.model.specs.Fresh.{freshTotal}
 
 -- row y is one of the block's rows; column x is one of its columns
@@ -36,6 +37,13 @@ unfoldable pub written : Settings → ℕ → Block → List ℕ → Depths → 
 written s v b c d =
     cond (isRight v) (depths (d .left) (writtenPlane (s .w) b c (d .right)))
     (depths (writtenPlane (s .w) b c (d .left)) (d .right))
+
+-- The depths that stand in the block, in row order (document 02, card 3: what a SET saves).
+unfoldable pub blockDepths : ℕ → Block → List ℕ → List ℕ
+blockDepths w b plane = listOf (λ k. getD plane ((b .row + k / b .width) * w + (b .column + k % b .width)) 0) (positions b)
+
+abbrev pub oldDepths : Settings → ℕ → Block → Depths → List ℕ
+oldDepths s v b d = blockDepths (s .w) b (depthsOf d (isRight v))
 
 -- The fresh total with the candidate written less the fresh total of the depths as they stand.
 unfoldable pub changeOf : Settings → Pictures → Depths → ℕ → Block → List ℕ → ℤ

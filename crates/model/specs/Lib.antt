@@ -8,6 +8,7 @@ pub mod Planes
 pub mod Fresh
 pub mod Candidates
 pub mod Blocks
+pub mod Journals
 pub mod Span
 pub mod Reports
 pub mod Refusals

@@ -68,7 +68,7 @@ abbrev pub withTotal : Settings → ℕ → Settings
 withTotal s t =
     record { w = s .w; h = s .h; left = s .left; right = s .right; share = s .share; tolerance = s .tolerance; total = t }
 
--- Document 02, card 12: a plane of samples as it is read, and what is held as GET and SET read it. Where no sample is above the greatest, as in
+-- Document 02, card 12: a plane of samples as it is read, and what is held as GET, SET and TAKE BACK read it. Where no sample is above the greatest, as in
 -- what OPEN and SET make, that is what stands there (proofs/Readings).
 unfoldable pub readAll : List ℕ → List ℕ
 readAll l = listOf (sampleIn l) (length l)

@@ -1,10 +1,10 @@
 -- What each entry promises of its reply and of every plane it is lent: one record an entry.
-use Prim.Native.Nat.{ℕ}
+use Prim.Native.Nat.{ℕ, _≤_}
 use mathlib.Core.Path.{_≡_}
 use mathlib.Core.Bool.{true, false, cond}
 use mathlib.Core.List.{List}
 use lib.IntN.{ℤ, pos, _+ℤ_, natAbs}
-use lib.ListN.{length}
+use lib.ListN.{length, getD}
 use Rattle.model.specs.declared.Settings.{Settings}
 use Rattle.model.specs.declared.Block.{Block}
 use Rattle.model.specs.declared.Candidate.{Candidate}
@@ -21,9 +21,10 @@ use Rattle.model.specs.Marks.{holesIn}
 use Rattle.model.specs.Planes.{Pictures, Depths, Held, Strip, withTotal, tableOf, readHeld, heldRow}
 use Rattle.model.specs.Fresh.{stripOf, fresh, freshTotal}
 use Rattle.model.specs.Candidates.{filled}
-use Rattle.model.specs.Blocks.{inRows, written, changeOf}
+use Rattle.model.specs.Blocks.{inRows, written, oldDepths, changeOf}
+use Rattle.model.specs.Journals.{newest, recordView, recordBlock, recordDepths, saved, takenBack, emptied}
 use Rattle.model.specs.Reports.{reportOf}
-use Rattle.model.specs.Refusals.{numberOf, reportNumber, countNumber, openNumber, checkNumber, earlyNumber, callNumber, inRange, renderNumber, holesNumber}
+use Rattle.model.specs.Refusals.{numberOf, reportNumber, countNumber, openNumber, checkNumber, earlyNumber, callNumber, setNumber, takeBackNumber, takeBackEarly, inRange, renderNumber, holesNumber}
 
 -- RENDER draws one row of one view with that view's table. x₀ is what it is lent for writing, at entry; x the same at exit.
 pub record RenderPost (s : Settings) (v : ℕ) (texture depths : List ℕ) (x₀ x : Strip) (r : Refusal) : Type 0 where
@@ -31,13 +32,21 @@ pub record RenderPost (s : Settings) (v : ℕ) (texture depths : List ℕ) (x₀
   pub refused : (numberOf r ≡ 0 → ⊥) → x ≡ x₀
   pub drawn : numberOf r ≡ 0 → x ≡ stripOf (s .w) (viewRow (isRight v) (line (tableOf s (isRight v)) texture depths))
 
--- OPEN fills all held planes and answers the settings with the total. h₀ is what is held at entry, h at exit.
-pub record OpenPost (s : Settings) (p : Pictures) (d : Depths) (h₀ h : Held) (r : Opened) : Type 0 where
-  pub number : numberOf (r .refusal) ≡ openNumber s p d h₀
+-- Depths are 8-bit planes, as document 01 has them: of the planes that a call is lent this holds by their type.
+pub record EightBit (d : Depths) : Type 0 where
+  pub left : (i : ℕ) → getD (d .left) i 0 ≤ 255
+  pub right : (i : ℕ) → getD (d .right) i 0 ≤ 255
+
+-- OPEN fills all held planes, empties the journal and answers the settings with the total. h₀ is what is held at entry, h at exit; j₀ and j are the journal.
+pub record OpenPost (s : Settings) (p : Pictures) (d : Depths) (h₀ h : Held) (j₀ j : List ℕ) (r : Opened) : Type 0 where
+  pub number : numberOf (r .refusal) ≡ openNumber s p d h₀ j₀
   pub refused-held : (numberOf (r .refusal) ≡ 0 → ⊥) → h ≡ h₀
+  pub refused-journal : (numberOf (r .refusal) ≡ 0 → ⊥) → j ≡ j₀
   pub refused-settings : (numberOf (r .refusal) ≡ 0 → ⊥) → r .settings ≡ s
   pub held : numberOf (r .refusal) ≡ 0 → h ≡ fresh s p d
+  pub journal : numberOf (r .refusal) ≡ 0 → j ≡ emptied j₀
   pub settings : numberOf (r .refusal) ≡ 0 → r .settings ≡ withTotal s (freshTotal s p d)
+  pub eight-bit : EightBit d
 
 -- Held planes and total that are those of the fresh drawing: what OPEN and SET make.
 pub record Sound (s : Settings) (p : Pictures) (d : Depths) (h : Held) : Type 0 where
@@ -61,24 +70,41 @@ pub record Untouched (s : Settings) (v : ℕ) (b : Block) (h₀ h : Held) : Type
   pub right : isRight v ≡ false → h .right ≡ h₀ .right
   pub rows : (y : ℕ) → inRows b y ≡ false → heldRow (s .w) h y ≡ heldRow (s .w) h₀ y
 
--- SET refuses as GET does; otherwise it writes the block so filled, brings the held planes up to date and answers the change and the settings
--- with the new total. d₀ and h₀ are the planes at entry, d and h at exit; c, x and `found` are as for GET. A session that is sound stays so, as it
--- stands and as it is read.
-pub record SetPost (s : Settings) (p : Pictures) (d₀ d : Depths) (h₀ h : Held) (v : ℕ) (b : Block) (c : Candidate) (x : List ℕ) (r : Edited) : Type 0 where
-  pub found : ℤ
-  pub number : numberOf (r .refusal) ≡ callNumber s p d₀ h₀ v b c (length x) found
+-- What SET and TAKE BACK have in common: the depths c are written into block b of view v, the held planes are brought up to date, and the change and the
+-- settings with the new total are answered; or nothing is changed. d₀ and h₀ are the planes at entry, d and h at exit. `early` is the call's number before 8, and
+-- `found` the change, as for GET. A session that is sound stays so, as it stands and as it is read.
+pub record EditPost (s : Settings) (p : Pictures) (d₀ d : Depths) (h₀ h : Held) (v : ℕ) (b : Block) (c : List ℕ) (early : ℕ) (found : ℤ) (r : Edited) : Type 0 where
   pub refused-depths : (numberOf (r .refusal) ≡ 0 → ⊥) → d ≡ d₀
   pub refused-held : (numberOf (r .refusal) ≡ 0 → ⊥) → h ≡ h₀
   pub refused-settings : (numberOf (r .refusal) ≡ 0 → ⊥) → r .settings ≡ s
   pub refused-change : (numberOf (r .refusal) ≡ 0 → ⊥) → r .change ≡ pos 0
   pub change : numberOf (r .refusal) ≡ 0 → r .change ≡ found
   pub settings : numberOf (r .refusal) ≡ 0 → r .settings ≡ withTotal s (natAbs (pos (s .total) +ℤ found))
-  pub depths : numberOf (r .refusal) ≡ 0 → d ≡ written s v b (filled b c x) d₀
+  pub depths : numberOf (r .refusal) ≡ 0 → d ≡ written s v b c d₀
   pub untouched : numberOf (r .refusal) ≡ 0 → Untouched s v b h₀ h
-  pub decided : earlyNumber s p d₀ h₀ v b c (length x) ≡ 0 → Sound s p d₀ (readHeld h₀) → found ≡ changeOf s p d₀ v b (filled b c x)
-  pub in-range : earlyNumber s p d₀ h₀ v b c (length x) ≡ 0 → Sound s p d₀ (readHeld h₀) → inRange s found ≡ true
-  pub held : numberOf (r .refusal) ≡ 0 → Sound s p d₀ h₀ → h ≡ fresh s p (written s v b (filled b c x) d₀)
-  pub read : numberOf (r .refusal) ≡ 0 → Sound s p d₀ (readHeld h₀) → readHeld h ≡ fresh s p (written s v b (filled b c x) d₀)
+  pub decided : early ≡ 0 → Sound s p d₀ (readHeld h₀) → found ≡ changeOf s p d₀ v b c
+  pub in-range : early ≡ 0 → Sound s p d₀ (readHeld h₀) → inRange s found ≡ true
+  pub held : numberOf (r .refusal) ≡ 0 → Sound s p d₀ h₀ → h ≡ fresh s p (written s v b c d₀)
+  pub read : numberOf (r .refusal) ≡ 0 → Sound s p d₀ (readHeld h₀) → readHeld h ≡ fresh s p (written s v b c d₀)
+  pub eight-bit : EightBit d
+
+-- SET refuses as GET does, then by the journal; otherwise it writes the block that the candidate c stands for, x being the bytes lent with it, and saves what
+-- stood there. j₀ is the journal at entry, j at exit.
+pub record SetPost (s : Settings) (p : Pictures) (d₀ d : Depths) (h₀ h : Held) (j₀ j : List ℕ) (v : ℕ) (b : Block) (c : Candidate) (x : List ℕ) (r : Edited) : Type 0 where
+  pub found : ℤ
+  pub number : numberOf (r .refusal) ≡ setNumber s p d₀ h₀ j₀ v b c (length x) found
+  pub edit : EditPost s p d₀ d h₀ h v b (filled b c x) (earlyNumber s p d₀ h₀ v b c (length x)) found r
+  pub refused-journal : (numberOf (r .refusal) ≡ 0 → ⊥) → j ≡ j₀
+  pub journal : numberOf (r .refusal) ≡ 0 → j ≡ saved j₀ v b (oldDepths s v b d₀)
+
+-- TAKE BACK writes the newest record's depths into its block as a SET of them would, whoever wrote the record, saves nothing, and gives word 0 the index of the
+-- one before.
+pub record TakeBackPost (s : Settings) (p : Pictures) (d₀ d : Depths) (h₀ h : Held) (j₀ j : List ℕ) (r : Edited) : Type 0 where
+  pub found : ℤ
+  pub number : numberOf (r .refusal) ≡ takeBackNumber s p d₀ h₀ j₀ found
+  pub edit : EditPost s p d₀ d h₀ h (recordView j₀ (newest j₀)) (recordBlock j₀ (newest j₀)) (recordDepths j₀ (newest j₀)) (takeBackEarly s p d₀ h₀ j₀) found r
+  pub refused-journal : (numberOf (r .refusal) ≡ 0 → ⊥) → j ≡ j₀
+  pub journal : numberOf (r .refusal) ≡ 0 → j ≡ takenBack j₀
 
 -- CHECK compares every held entry with a fresh drawing.
 pub record CheckPost (s : Settings) (p : Pictures) (d : Depths) (h : Held) (r : Report) : Type 0 where

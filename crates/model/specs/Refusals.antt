@@ -1,10 +1,10 @@
 -- Document 01, "Calls and what they turn down": the numbers of the refusals, and the first that applies to a call, 0 for none.
-use Prim.Native.Nat.{ℕ, _+_, _*_}
-use mathlib.Core.Bool.{Bool, true, false, _&&_}
+use Prim.Native.Nat.{ℕ, zero, suc, _+_, _*_}
+use mathlib.Core.Bool.{Bool, true, false, not, _&&_, _||_}
 use mathlib.Core.List.{List, [], _∷_}
 use lib.IntN.{ℤ, pos, negsuc, _+ℤ_}
 use lib.ListN.{length}
-use lib.Dec.{leb, eqb}
+use lib.Dec.{leb, ltb, eqb}
 use Rattle.model.specs.declared.Settings.{Settings}
 use Rattle.model.specs.declared.Block.{Block}
 use Rattle.model.specs.declared.Refusal.{Refusal}
@@ -19,6 +19,7 @@ use Rattle.model.specs.Combined.{worst}
 use Rattle.model.specs.Planes as planes
 use Rattle.model.specs.Planes.{Pictures, Depths, Held, Strip, area}
 use Rattle.model.specs.Candidates.{positions, lineOk}
+use Rattle.model.specs.Journals.{newest, indexBefore, recordView, recordBlock, recordDepths, recordSize, recordEnd, nextIndex}
 
 -- the number of a refusal, 0 where the call is accepted
 abbrev pub numberOf : Refusal → ℕ
@@ -31,6 +32,9 @@ numberOf Refusal.Bounds = 5
 numberOf Refusal.View = 6
 numberOf Refusal.Candidate = 7
 numberOf Refusal.Total = 8
+numberOf Refusal.JournalFull = 11
+numberOf Refusal.NothingToTakeBack = 12
+numberOf Refusal.Journal = 13
 numberOf Refusal.Line = 14
 numberOf Refusal.Mask = 15
 numberOf Refusal.Sample = 21
@@ -117,6 +121,31 @@ within (negsuc n) most = false
 unfoldable pub inRange : Settings → ℤ → Bool
 inRange s change = within (pos (s .total) +ℤ change) (worst * area s)
 
+-- 13: a journal of no words
+abbrev pub wordsOk : List ℕ → Bool
+wordsOk j = ltb 0 (length j)
+
+-- 13: a record past the end, a view above 1, its block empty or past an edge, or a depth above 255
+unfoldable pub recordOk : Settings → List ℕ → ℕ → Bool
+recordOk s j i =
+    leb (recordEnd j i) (length j) && (viewOk (recordView j i) && (blockOk s (recordBlock j i) && upTo 255 (recordDepths j i)))
+
+-- 13: a chain that doesn't fall to zero. It stands at index i; each further index is below the one before, so that n steps are enough where i is at most n.
+unfoldable pub chainOk : Settings → List ℕ → ℕ → ℕ → Bool
+chainOk s j zero i = eqb i 0
+chainOk s j (suc n) i = eqb i 0 || (recordOk s j i && (ltb (indexBefore j i) i && chainOk s j n (indexBefore j i)))
+
+unfoldable pub journalOk : Settings → List ℕ → Bool
+journalOk s j = wordsOk j && chainOk s j (newest j) (newest j)
+
+-- 11: the words beyond the newest record can't hold the new one, or its index passes 32 bits
+unfoldable pub roomOk : Block → List ℕ → Bool
+roomOk b j = leb (nextIndex j + recordSize b) (length j) && ltb (nextIndex j) 4294967296
+
+-- 12: nothing to take back
+abbrev pub someRecord : List ℕ → Bool
+someRecord j = not (eqb (newest j) 0)
+
 -- 21: an entry of a texture or of the reference above 1,023
 abbrev pub pictureOk : List ℕ → Bool
 pictureOk p = upTo greatest p
@@ -132,21 +161,43 @@ commonThen s p d h rest = unless (sizeOk s) 1 (unless (planesSized s p d h) 2 (u
 unfoldable pub ownThen : Settings → ℕ → Block → Candidate → ℕ → ℕ → ℕ
 ownThen s v b c n rest = unless (viewOk v) 6 (unless (blockOk s b) 5 (candidateThen b c n rest))
 
--- OPEN refuses 1, 2, 3, 4, then 21.
-abbrev pub openNumber : Settings → Pictures → Depths → Held → ℕ
-openNumber s p d h = commonThen s p d h (unless (picturesOk p) 21 0)
+-- 13, then 11: what SET tests of the journal for block b
+unfoldable pub savingThen : Settings → Block → List ℕ → ℕ → ℕ
+savingThen s b j rest = unless (journalOk s j) 13 (unless (roomOk b j) 11 rest)
+
+-- 13, then 12: what TAKE BACK tests of it
+unfoldable pub takingThen : Settings → List ℕ → ℕ → ℕ
+takingThen s j rest = unless (journalOk s j) 13 (unless (someRecord j) 12 rest)
+
+-- OPEN refuses 1, 2, 3, 4, 13 for a journal of no words, then 21.
+abbrev pub openNumber : Settings → Pictures → Depths → Held → List ℕ → ℕ
+openNumber s p d h j = commonThen s p d h (unless (wordsOk j) 13 (unless (picturesOk p) 21 0))
 
 -- CHECK refuses 1, 2, 3, 4.
 abbrev pub checkNumber : Settings → Pictures → Depths → Held → ℕ
 checkNumber s p d h = commonThen s p d h 0
 
--- GET and SET refuse 1, 2, 3, 4, 6, 5, by the candidate's kind 7, 14 or 15, then 8, which is judged by the change that was found.
-abbrev pub callNumber : Settings → Pictures → Depths → Held → ℕ → Block → Candidate → ℕ → ℤ → ℕ
-callNumber s p d h v b c n change = commonThen s p d h (ownThen s v b c n (unless (inRange s change) 8 0))
+-- GET and SET refuse 1, 2, 3, 4, 6, 5, by the candidate's kind 7, 14 or 15, then 8, which is judged by the change that was found; SET has the rest of its list.
+abbrev pub callThen : Settings → Pictures → Depths → Held → ℕ → Block → Candidate → ℕ → ℤ → ℕ → ℕ
+callThen s p d h v b c n change rest = commonThen s p d h (ownThen s v b c n (unless (inRange s change) 8 rest))
 
--- the same with 8 left out
+abbrev pub callNumber : Settings → Pictures → Depths → Held → ℕ → Block → Candidate → ℕ → ℤ → ℕ
+callNumber s p d h v b c n change = callThen s p d h v b c n change 0
+
+-- SET has 8, 13, 11 at its end.
+abbrev pub setNumber : Settings → Pictures → Depths → Held → List ℕ → ℕ → Block → Candidate → ℕ → ℤ → ℕ
+setNumber s p d h j v b c n change = callThen s p d h v b c n change (savingThen s b j 0)
+
+-- what both refuse before 8
 abbrev pub earlyNumber : Settings → Pictures → Depths → Held → ℕ → Block → Candidate → ℕ → ℕ
 earlyNumber s p d h v b c n = commonThen s p d h (ownThen s v b c n 0)
+
+-- TAKE BACK refuses 1, 2, 3, 4, 13, 12, then 8, and before 8 the same.
+abbrev pub takeBackNumber : Settings → Pictures → Depths → Held → List ℕ → ℤ → ℕ
+takeBackNumber s p d h j change = commonThen s p d h (takingThen s j (unless (inRange s change) 8 0))
+
+abbrev pub takeBackEarly : Settings → Pictures → Depths → Held → List ℕ → ℕ
+takeBackEarly s p d h j = commonThen s p d h (takingThen s j 0)
 
 -- RENDER refuses 1, 2, 3, then 6; h is not tested.
 unfoldable pub stripSized : ℕ → List ℕ → List ℕ → Strip → Bool

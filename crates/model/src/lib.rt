@@ -74,6 +74,9 @@ pub enum Refusal {
     View,
     Candidate,
     Total,
+    JournalFull,
+    NothingToTakeBack,
+    Journal,
     Line,
     Mask,
     Sample,
@@ -91,7 +94,7 @@ pub struct Trial {
     pub change: i64,
 }
 
-// What SET answers.
+// What SET and TAKE BACK answer.
 pub struct Edited {
     pub refusal: Refusal,
     pub change: i64,
@@ -126,6 +129,9 @@ pub fn number(refusal: Refusal) -> u32
         Refusal::View => 6,
         Refusal::Candidate => 7,
         Refusal::Total => 8,
+        Refusal::JournalFull => 11,
+        Refusal::NothingToTakeBack => 12,
+        Refusal::Journal => 13,
         Refusal::Line => 14,
         Refusal::Mask => 15,
         Refusal::Sample => 21,

@@ -1,18 +1,22 @@
 -- Planes filled row by row are the fresh drawing, and so OPEN keeps its promise.
 --     filled-fresh, filled-total     the filled planes and the total are the fresh drawing's
+--     words-some       a journal that is not refused has a word 0
 --     refused, opened  the two ways out of OPEN
-use Prim.Native.Nat.{ℕ}
+use Prim.Native.Nat.{ℕ, _<_}
 use mathlib.Core.Path.{_≡_, refl, sym, ap, _∙_}
 use mathlib.Core.Bool.{true, false}
-use lib.ListN.{length}
+use mathlib.Core.List.{List}
+use lib.ListN.{length, set}
+use borrow.Author.Tests.{ltb-true}
 use Rattle.model.specs.declared.Settings.{Settings}
 use Rattle.model.specs.declared.Refusal.{Refusal}
 use Rattle.model.specs.declared.Refusal.the-variants.{None}
 use Rattle.model.specs.Planes.{Pictures, Depths, Held, held, withTotal}
 use Rattle.model.specs.Fresh.{freshView, fresh, freshTotal}
-use Rattle.model.specs.Refusals.{numberOf, openNumber}
-use Rattle.model.specs.Promises.{OpenPost}
-use Rattle.model.proofs.Refusals.{Common}
+use Rattle.model.specs.Refusals.{numberOf, unless, wordsOk, picturesOk, openNumber}
+use Rattle.model.specs.Promises.{EightBit, OpenPost}
+use Rattle.model.proofs.Refusals.{Common, unless-true, rest-passed, common-before}
+use Rattle.model.proofs.Journals.{set-newest}
 use Rattle.draw.specs.Drawn.{PlanesOf}
 use Rattle.draw.specs.Combination.{heldRows, PictureCombined}
 use Rattle.draw.proofs.Planes.{view-whole}
@@ -82,21 +86,41 @@ common-kept s p d g₀ g c ls lf le lm rs rf re rm k =
       share = c .share;
     }
 
+-- the journal of a call that is accepted has a word 0
+pub words-some : (s : Settings) (p : Pictures) (d : Depths) (g : Held) (j : List ℕ) → openNumber s p d g j ≡ 0 → 0 < length j
+words-some s p d g j e =
+    ltb-true 0 (length j)
+    (unless-true (wordsOk j) 12 _ (rest-passed (common-before s p d g) (unless (wordsOk j) 13 (unless (picturesOk p) 21 0)) e))
+
 -- ---- the two ways out
 
-pub refused : (s : Settings) (p : Pictures) (d : Depths) (g : Held) (r : Refusal) → numberOf r ≡ openNumber s p d g → (numberOf r ≡ 0 → ⊥) → OpenPost s p d g g (record { refusal = r; settings = s })
-refused s p d g r e ne =
-    record { number = e; refused-held = λ _. refl; refused-settings = λ _. refl; held = λ z. absurd (ne z); settings = λ z. absurd (ne z) }
+pub refused :
+    (s : Settings) (p : Pictures) (d : Depths) (g : Held) (j : List ℕ) (r : Refusal) → numberOf r ≡ openNumber s p d g j → (numberOf r ≡ 0 → ⊥) →
+    EightBit d → OpenPost s p d g g j j (record { refusal = r; settings = s })
+refused s p d g j r e ne eight =
+    record {
+      number = e;
+      refused-held = λ _. refl;
+      refused-journal = λ _. refl;
+      refused-settings = λ _. refl;
+      held = λ z. absurd (ne z);
+      journal = λ z. absurd (ne z);
+      settings = λ z. absurd (ne z);
+      eight-bit = eight;
+    }
 
 pub opened :
-    (s : Settings) (p : Pictures) (d : Depths) (g₀ g : Held) (total : ℕ) → openNumber s p d g₀ ≡ 0 → Common s p d g →
-    Filled (s .left) (s .right) (s .share) (s .tolerance) (s .w) (s .h) p d g total →
-    OpenPost s p d g₀ g (record { refusal = None; settings = withTotal s total })
-opened s p d g₀ g total e c f =
+    (s : Settings) (p : Pictures) (d : Depths) (g₀ g : Held) (j : List ℕ) (total : ℕ) → openNumber s p d g₀ j ≡ 0 → Common s p d g →
+    Filled (s .left) (s .right) (s .share) (s .tolerance) (s .w) (s .h) p d g total → EightBit d →
+    OpenPost s p d g₀ g j (set j 0 0) (record { refusal = None; settings = withTotal s total })
+opened s p d g₀ g j total e c f eight =
     record {
       number = sym e;
       refused-held = λ ne. absurd (ne refl);
+      refused-journal = λ ne. absurd (ne refl);
       refused-settings = λ ne. absurd (ne refl);
       held = λ z. filled-fresh s p d g total c f;
+      journal = λ z. set-newest 0 j;
       settings = λ z. ap (withTotal s) (filled-total s p d g total c f);
+      eight-bit = eight;
     }

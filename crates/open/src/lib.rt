@@ -1,4 +1,4 @@
-// OPEN: all held planes filled afresh, and the settings with their total.
+// OPEN: all held planes filled afresh, the journal emptied, and the settings with their total.
 use model::Opened;
 use model::Refusal;
 use model::Settings;
@@ -7,6 +7,7 @@ use validate::ViewLengths;
 ghost use mathlib.Core.Path.{_≡_};
 ghost use mathlib.Core.Bool.{false, true};
 ghost use Prim.Native.Nat.{_*_, _≤_, _<_};
+ghost use lib.Dec.{ltb};
 ghost use lib.ListN.{length};
 ghost use Rattle.model.specs.Planes.{pictures, depths, view, held};
 ghost use Rattle.model.specs.Refusals.{numberOf, unless, picturesOk};
@@ -103,7 +104,7 @@ fn pictures_ok(left: &[u16], right: &[u16], reference: &[u16]) -> bool
     validate::picture_ok(reference)
 }
 
-// 1, 2, 3, 4 or 21, the first that applies.
+// 1, 2, 3, 4, 13 or 21, the first that applies; `words` is the length of the journal.
 fn refusal_of(
     w: u32,
     h: u32,
@@ -111,16 +112,20 @@ fn refusal_of(
     rightTable: &[u16; 256],
     share: u8,
     lengths: Lengths,
+    words: usize,
     left: &[u16],
     right: &[u16],
     reference: &[u16],
 ) -> Refusal
     ensures { λ r. ⌜ numberOf r ≡ commonNumber w h (now (leftTable .entry)) (now (rightTable .entry)) share lengths
-        (unless (picturesOk (pictures (now (left .entry)) (now (right .entry)) (now (reference .entry)))) 21 0) ⌝ }
+        (unless (ltb 0 words) 13 (unless (picturesOk (pictures (now (left .entry)) (now (right .entry)) (now (reference .entry)))) 21 0)) ⌝ }
 {
     let first = validate::common(w, h, leftTable, rightTable, share, lengths);
     if model::number(first) != 0 {
         return first;
+    }
+    if words < 1 {
+        return Refusal::Journal;
     }
     if pictures_ok(left, right, reference) {
         Refusal::None
@@ -129,7 +134,7 @@ fn refusal_of(
     }
 }
 
-// OPEN fills all held planes from the pictures and depths, and answers the settings with the total; a total passed in is ignored.
+// OPEN fills all held planes from the pictures and depths, empties the journal, and answers the settings with the total; a total passed in is ignored.
 pub fn open(
     settings: Settings,
     left: &[u16],
@@ -146,12 +151,14 @@ pub fn open(
     rightLimits: &mut [i16],
     rightMarks: &mut [u8],
     combined: &mut [u16],
+    journal: &mut [u32],
 ) -> Opened
     ensures { λ r. ⌜ OpenPost settings (pictures (now (left .entry)) (now (right .entry)) (now (reference .entry))) (depths (now (leftDepths .entry)) (now (rightDepths .entry)))
         (held (view (now (leftSamples .entry)) (now (leftFronts .entry)) (now (leftLimits .entry)) (now (leftMarks .entry)))
         (view (now (rightSamples .entry)) (now (rightFronts .entry)) (now (rightLimits .entry)) (now (rightMarks .entry))) (now (combined .entry)))
         (held (view (now (leftSamples .exit)) (now (leftFronts .exit)) (now (leftLimits .exit)) (now (leftMarks .exit)))
-        (view (now (rightSamples .exit)) (now (rightFronts .exit)) (now (rightLimits .exit)) (now (rightMarks .exit))) (now (combined .exit))) r ⌝ }
+        (view (now (rightSamples .exit)) (now (rightFronts .exit)) (now (rightLimits .exit)) (now (rightMarks .exit))) (now (combined .exit)))
+        (now (journal .entry)) (now (journal .exit)) r ⌝ }
 {
     let leftTable = settings.left;
     let rightTable = settings.right;
@@ -181,6 +188,7 @@ pub fn open(
             reference: reference.len(),
             combined: combined.len(),
         },
+        journal.len(),
         left,
         right,
         reference,
@@ -213,6 +221,7 @@ pub fn open(
         rightMarks,
         combined,
     );
+    journal[0] = 0;
     let mut next = settings;
     next.total = total;
     Opened {

@@ -1,7 +1,8 @@
 -- A list that is filled part by part.
---     filled-none, filled-next, filled-back, filled-join     it grows, to the right or to the left
+--     filled-none, filled-next, filled-more, filled-back, filled-join     it grows, to the right or to the left
 --     filled-change                                          rules that agree in the part
 --     filled-all, filled-rest                                filled whole, or where two rules differ, it is the rule's list
+--     filled-copy                                            filled whole with another list's entries, it is that list
 --     filled-splice                                          a part replaced by values of the rule
 use Prim.Native.Nat.{ℕ, _+_, _-_, _<_, _≤_}
 use mathlib.Core.Path.{_≡_, refl, sym, ap, subst, _∙_}
@@ -9,7 +10,7 @@ use mathlib.Core.Logic.{⊎-elim, _⊎_, inl, inr}
 use mathlib.Core.List.{List}
 use native.Mathlib.Omega.{arith}
 use lib.ListN.{length, getD, set}
-use lib.Seq.{getD-set-same, getD-set-other}
+use lib.Seq.{ext-getD, getD-set-same, getD-set-other}
 use Rattle.model.specs.Lists.{listOf}
 use Rattle.model.proofs.Choice.{lt-or-le}
 use Rattle.model.proofs.Lists.{length-listOf, getD-listOf, list-of}
@@ -40,6 +41,15 @@ module _ {A : Type 0} where
         beyond = λ p m. g .beyond p (omega arith) ∙ h .beyond p m;
       }
 
+  -- a part after one that is filled
+  pub filled-more : {z : A} {f : ℕ → A} {a b e : ℕ} {x y w : List A} → Filled z f a b x y → Filled z f b e y w → a ≤ b → b ≤ e → Filled z f a e x w
+  filled-more {z} {f} {a} {b} {e} {x} {y} {w} h g k l =
+      record {
+        inside = λ p m n. ⊎-elim (λ u. g .under p u ∙ h .inside p m u) (λ u. g .inside p u n) (lt-or-le p b);
+        under = λ p m. g .under p (omega arith) ∙ h .under p m;
+        beyond = λ p m. g .beyond p m ∙ h .beyond p (omega arith);
+      }
+
   -- one more value at the front
   pub filled-back : {z : A} {f : ℕ → A} {c e : ℕ} {x y : List A} (v : A) → Filled z f (c + 1) e x y → c + 1 ≤ e → c < length y → v ≡ f c → Filled z f c e x (set y c v)
   filled-back {z} {f} {c} {e} {x} {y} v h k l q =
@@ -53,6 +63,10 @@ module _ {A : Type 0} where
   -- filled whole
   pub filled-all : {z : A} {f : ℕ → A} {n : ℕ} {x y : List A} → Filled z f 0 n x y → length y ≡ n → y ≡ listOf f n
   filled-all {z} {f} {n} {x} {y} h l = list-of z f n y l (λ k m. h .inside k (omega arith) m)
+
+  -- filled whole with another list's entries
+  pub filled-copy : {z : A} {x y : List A} (l : List A) → Filled z (λ i. getD l i z) 0 (length l) x y → length y ≡ length l → y ≡ l
+  filled-copy {z} {x} {y} l h e = ext-getD z y l e (λ i k. h .inside i (omega arith) (omega arith))
 
   -- the list of the rule f, filled with g where the two differ, is the list of g
   pub filled-rest : {z : A} {f g : ℕ → A} {start stop n : ℕ} {x y : List A} → Filled z g start stop x y → x ≡ listOf f n → length y ≡ length x → ((p : ℕ) → p < n → (p < start) ⊎ (stop ≤ p) → g p ≡ f p) → y ≡ listOf g n

@@ -1,3 +1,6 @@
--- Term 3: why it holds.
+-- Term 3, and the runs with one journal: why they hold.
 pub mod Steps
+pub mod Calls
 pub mod Run
+pub mod Ledger
+pub mod Shared

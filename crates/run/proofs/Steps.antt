@@ -1,6 +1,6 @@
 -- What a session as OPEN leaves it has passed, and what a written block changes in it.
 --     ready, ready-common, ready-written     1 to 4 never apply in a run
---     local-written                          an accepted SET changes no more than document 01 allows
+--     local-written                          a written block changes no more than document 01 allows
 use Prim.Native.Nat.{ℕ, _+_, _*_, _<_, _≤_}
 use mathlib.Core.Path.{_≡_, refl, ap, sym, _∙_}
 use mathlib.Core.Bool.{Bool, true, false}
@@ -12,7 +12,7 @@ use Rattle.model.specs.declared.Block.{Block}
 use Rattle.model.specs.Views.{isRight}
 use Rattle.model.specs.Marks.{markBytes}
 use Rattle.model.specs.Planes.{Pictures, Depths, View, Held, area, withTotal, depthsOf}
-use Rattle.model.specs.Fresh.{freshRow, freshView, shownAt, freshSample, freshCombined, fresh, freshTotal}
+use Rattle.model.specs.Fresh.{freshRow, freshView, shownAt, freshSample, freshCombined, fresh}
 use Rattle.model.specs.Blocks.{inBlock, written, changeOf}
 use Rattle.model.specs.Refusals.{commonThen, openNumber}
 use Rattle.model.proofs.Choice.{bool-cases}
@@ -21,7 +21,7 @@ use Rattle.model.proofs.Fresh.{DepthsSized, freshTotal-total, row-fresh-samples
 use Rattle.model.proofs.Written.{written-total, written-out}
 use Rattle.model.proofs.Locality.{Columns, sized-written, shown-stays, sample-stays, limits-stay}
 use Rattle.model.proofs.Refusals.{Size, PicturesOf, ViewOf, HeldOf, Tables, common-facts, common-yes, common-passed}
-use Rattle.run.specs.Run.{shownIn, Local}
+use Rattle.run.specs.Run.{shownIn, plainState, Local}
 
 pub changeOf-total : (s : Settings) (t : ℕ) (p : Pictures) (d : Depths) (v : ℕ) (b : Block) (c : List ℕ) → changeOf (withTotal s t) p d v b c ≡ changeOf s p d v b c
 unfolding changeOf
@@ -35,8 +35,8 @@ pub record Ready (s : Settings) (p : Pictures) (d : Depths) : Type 0 where
   pub tables : Tables s
   pub share : s .share ≤ 64
 
-pub ready : (s : Settings) (p : Pictures) (d : Depths) (h : Held) → openNumber s p d h ≡ 0 → Ready s p d
-ready s p d h e =
+pub ready : (s : Settings) (p : Pictures) (d : Depths) (h : Held) (j : List ℕ) → openNumber s p d h j ≡ 0 → Ready s p d
+ready s p d h j e =
     let f = common-facts s p d h (common-passed s p d h _ e) in
     record { size = f .size; pictures = f .pictures; depths = f .depths; tables = f .tables; share = f .share }
 
@@ -117,8 +117,8 @@ module _ (s : Settings) (p : Pictures) (d : Depths) (ok : Ready s p d) (v : ℕ)
   unfolding written fresh freshView freshRow
   right-stays e = rw e (refl, refl)
 
-  pub local-written : Local s v b (record { settings = withTotal s (freshTotal s p d); depths = d; held = fresh s p d }) (record { settings = withTotal s (freshTotal s p after); depths = after; held = fresh s p after })
-  unfolding fresh
+  pub local-written : Local s v b (plainState s p d) (plainState s p after)
+  unfolding plainState fresh
   local-written =
       record {
         depths = depths-out;

@@ -1,14 +1,18 @@
--- SET keeps its promise.
---     set-requires      what setting a block asks for, from what its trial asks for
---     own-requires      what settling a candidate in a view asks for has been tested
---     settled-by        settled in the planes of one view, a candidate is settled
---     refused, settled  the two ways out of SET: refused before the trial, and settled
+-- SET and TAKE BACK keep their promises.
+--     set-requires                what setting a block asks for, from what its trial asks for
+--     saved-requires              what saving asks for, once the call is accepted
+--     own-requires                what settling in a view asks for has been tested
+--     settled-by                  settled in the planes of one view, depths are settled
+--     edit-refused, edit-settled  the two ways out: refused before the trial, and settled
+--     set-refused, set-settled    and what SET promises of them
 use Prim.Native.Nat.{ℕ, _≤_}
-use mathlib.Core.Path.{_≡_, refl, ap, _∙_}
+use mathlib.Core.Path.{_≡_, refl, ap, sym, _∙_}
 use mathlib.Core.Bool.{Bool, true, false, not}
 use mathlib.Core.List.{List}
-use lib.IntN.{ℤ, pos, _+ℤ_, natAbs}
+use lib.IntN.{ℤ, pos, subℕ, _+ℤ_}
 use lib.ListN.{length}
+use native.Mathlib.Omega.{arith}
+use native.Mathlib.Nat.{mul-comm, mul-le-mul-right}
 use Rattle.model.specs.declared.Settings.{Settings}
 use Rattle.model.specs.declared.Block.{Block}
 use Rattle.model.specs.declared.Candidate.{Candidate}
@@ -16,8 +20,13 @@ use Rattle.model.specs.declared.Refusal.{Refusal}
 use Rattle.model.specs.Views.{isRight}
 use Rattle.model.specs.Planes.{Pictures, Depths, View, Held, withTotal, tableOf, textureOf, depthsOf, viewOf}
 use Rattle.model.specs.Candidates.{filled}
-use Rattle.model.specs.Refusals.{numberOf, tableOk, candidateThen, earlyNumber}
-use Rattle.model.specs.Promises.{SetPost}
+use Rattle.model.specs.Blocks.{oldDepths}
+use Rattle.model.specs.Refusals.{numberOf, tableOk, within, inRange, journalOk, roomOk, savingThen, earlyNumber}
+use Rattle.model.specs.Promises.{EightBit, EditPost, SetPost}
+use Rattle.model.proofs.Refusals.{unless-true, unless-rest, call-early, call-late}
+use Rattle.model.proofs.Journals.{saving-sides}
+use Rattle.validate.specs.Numbers.{sides}
+use Rattle.journal.specs.Words.{InPlane}
 use Rattle.trial.specs.Trial.{Around, Own, Fits}
 use Rattle.trial.specs.Trial as trial
 use Rattle.trial.proofs.Sound.{aroundOf, ownOf}
@@ -25,8 +34,9 @@ use Rattle.commit.specs.Commit as commit
 use Rattle.combine.specs.Combine.{OtherSized, BlockIn}
 use Rattle.combine.proofs.Session.{own-sized, withDepths, withView, set-depths, set-untouched, set-fresh, set-read}
 use Rattle.decide.specs.declared.Decision.{Decision}
-use Rattle.decide.proofs.Ways.{passed, tried, decided-early, decided-late}
-use Rattle.set.specs.Settled.{OwnSettled, Settled}
+use Rattle.decide.specs.Decided.{Judged}
+use Rattle.decide.proofs.Ways.{Passed, passed, tried, sum-change, sum-range}
+use Rattle.set.specs.Settled.{OwnSettled, Settled, JournalSaved}
 
 -- what setting a block asks for, from what its trial asks for
 pub set-requires : {w h : ℕ} {o : Around} {v : Own} {b : Block} {c : List ℕ} → trial.Sized w h o v → Fits w h b c → OtherSized w h (o .samples) (o .fronts) (o .marks) (o .combined) × BlockIn w h b c
@@ -34,6 +44,20 @@ set-requires sized fits = (
   record { samples = sized .samples; fronts = sized .fronts; marks = sized .marks; combined = sized .combined },
   record { some = fits .some; right = fits .right; below = fits .bottom; size = fits .entries },
 )
+
+-- what saving asks for, once the call is accepted
+pub saved-requires : {w h : ℕ} {o : Around} {v : Own} {b : Block} {c : List ℕ} (j : List ℕ) {total old new most late : ℕ} {r : Decision} → trial.Sized w h o v → Fits w h b c → late ≡ savingThen (sides w h) b j 0 → Judged total old new most late r → numberOf (r .refusal) ≡ 0 → InPlane w b (v .depths) × (roomOk b j ≡ true)
+unfolding savingThen
+saved-requires {w} {h} {v = v} {b = b} j {total} {old} {new} {most} {late} sized fits e judged z =
+    let none : savingThen (sides w h) b j 0 ≡ 0 = sym e ∙ unless-rest (within (pos total +ℤ subℕ new old) most) 7 late (sym (judged .number) ∙ z) in (
+      record {
+        wide = fits .wide;
+        high = omega (arith, fits .bottom, fits .high);
+        right = fits .right;
+        below = omega (arith, mul-le-mul-right w (fits .bottom), mul-comm w h, sized .depths);
+      },
+      unless-true (roomOk b j) 10 0 (unless-rest (journalOk (sides w h) j) 12 _ none),
+    )
 
 -- planes put back as they were
 depths-kept : (r : Bool) (d : Depths) (x : List ℕ) → x ≡ depthsOf d r → withDepths r d x ≡ d
@@ -44,79 +68,98 @@ held-kept : (r : Bool) (h : Held) (x : View) (c : List ℕ) → x ≡ viewOf h r
 held-kept true h x c e q = rw (e, q)
 held-kept false h x c e q = rw (e, q)
 
-module _ (s : Settings) (p : Pictures) (d₀ : Depths) (h₀ : Held) (v : ℕ) (b : Block) (c : Candidate) (x : List ℕ) where
+module _ (s : Settings) (p : Pictures) (d₀ : Depths) (h₀ : Held) (b : Block) (c : List ℕ) (f : Passed s p d₀ h₀ b c) where
   -- what settling in a view asks for, from the tests before 8
   pub own-requires :
-      (r : Bool) → earlyNumber s p d₀ h₀ v b c (length x) ≡ 0 →
+      (r : Bool) →
       ((tableOk (tableOf s r) ≡ true) × (s .share ≤ 64))
       × (trial.Sized (s .w) (s .h) (aroundOf s p h₀ r) (ownOf s p d₀ h₀ r)
-      × (commit.Sized (s .w) (s .h) (textureOf p r) (depthsOf d₀ r) (viewOf h₀ r) × (Fits (s .w) (s .h) b (filled b c x) × (candidateThen b c (length x) 0 ≡ 0))))
-  own-requires r e =
-      let f = passed s p d₀ h₀ v b c x e in
-      ((f .table r, f .common .share), (f .sized r, (own-sized (f .common) r, (f .fits, f .own .candidate))))
+      × (commit.Sized (s .w) (s .h) (textureOf p r) (depthsOf d₀ r) (viewOf h₀ r) × Fits (s .w) (s .h) b c))
+  own-requires r = ((f .table r, f .common .share), (f .sized r, (own-sized (f .common) r, f .fits)))
 
   -- settled in the planes of one view
   pub settled-by :
-      (r : Bool) → isRight v ≡ r → earlyNumber s p d₀ h₀ v b c (length x) ≡ 0 → (d′ : List ℕ) (v′ : View) (c′ : List ℕ) (q : Decision) →
-      OwnSettled r (tableOf s r) (s .share) (s .tolerance) (s .total) (s .w) (s .h) b (textureOf p r) (filled b c x) (viewOf h₀ (not r) .samples) (viewOf h₀ (not r) .fronts) (viewOf h₀ (not r) .marks) (p .reference) (depthsOf d₀ r) d′ (viewOf h₀ r) v′ (h₀ .combined) c′ q →
-      Settled s p d₀ (withDepths r d₀ d′) h₀ (withView r h₀ v′ c′) v b (filled b c x) q
-  settled-by r side e d′ v′ c′ q o =
-      let f = passed s p d₀ h₀ v b c x e in
+      (v rest : ℕ) (r : Bool) → isRight v ≡ r → (d′ : List ℕ) (v′ : View) (c′ : List ℕ) (q : Decision) →
+      OwnSettled r (tableOf s r) (s .share) (s .tolerance) (s .total) (s .w) (s .h) b rest (textureOf p r) c (viewOf h₀ (not r) .samples) (viewOf h₀ (not r) .fronts) (viewOf h₀ (not r) .marks) (p .reference) (depthsOf d₀ r) d′ (viewOf h₀ r) v′ (h₀ .combined) c′ q →
+      Settled s p d₀ (withDepths r d₀ d′) h₀ (withView r h₀ v′ c′) v b c rest q
+  settled-by v rest r side d′ v′ c′ q o =
       record {
         old = o .old;
         new = o .new;
-        tried = tried s p d₀ h₀ v b c x r f side (o .tried);
+        tried = tried s p d₀ h₀ v b c r f side (o .tried);
         judged = o .judged;
         kept-depths = λ ne. depths-kept r d₀ d′ (o .kept-depths ne);
         kept-held = λ ne. held-kept r h₀ v′ c′ (o .kept-view ne) (o .kept-combined ne);
         wrote = λ z. record {
-          depths = set-depths s p d₀ h₀ v b (filled b c x) r side d′ v′ c′ (o .set z);
-          untouched = set-untouched s p d₀ h₀ v b (filled b c x) r side d′ v′ c′ (o .set z);
-          held = λ sound. set-fresh s p d₀ h₀ v b (filled b c x) r side d′ v′ c′ (o .set z) (f .common .depths) (f .common .share) sound;
-          read = λ sound. set-read s p d₀ h₀ v b (filled b c x) r side d′ v′ c′ (o .set z) (f .common .depths) sound;
+          depths = set-depths s p d₀ h₀ v b c r side d′ v′ c′ (o .set z);
+          untouched = set-untouched s p d₀ h₀ v b c r side d′ v′ c′ (o .set z);
+          held = λ sound. set-fresh s p d₀ h₀ v b c r side d′ v′ c′ (o .set z) (f .common .depths) (f .common .share) sound;
+          read = λ sound. set-read s p d₀ h₀ v b c r side d′ v′ c′ (o .set z) (f .common .depths) sound;
         };
       }
 
-  -- ---- the two ways out
+-- ---- the two ways out
 
+module _ (s : Settings) (p : Pictures) (d₀ : Depths) (h₀ : Held) (v : ℕ) (b : Block) (c : List ℕ) (early : ℕ) where
   -- refused by a test before 8
-  pub refused : (n : Refusal) → numberOf n ≡ earlyNumber s p d₀ h₀ v b c (length x) → (numberOf n ≡ 0 → ⊥) → SetPost s p d₀ d₀ h₀ h₀ v b c x (record { refusal = n; change = pos 0; settings = s })
-  refused n e ne =
-      let made = decided-early s p d₀ h₀ v b c x (record { refusal = n; change = pos 0; total = s .total }) e ne refl refl in
+  pub edit-refused : (n : Refusal) → (numberOf n ≡ 0 → ⊥) → (early ≡ 0 → ⊥) → EightBit d₀ → EditPost s p d₀ d₀ h₀ h₀ v b c early (pos 0) (record { refusal = n; change = pos 0; settings = s })
+  edit-refused n ne late bytes =
       record {
-        found = made .answer .found;
-        number = made .answer .number;
         refused-depths = λ _. refl;
         refused-held = λ _. refl;
         refused-settings = λ _. refl;
         refused-change = λ _. refl;
-        change = made .answer .change;
+        change = λ _. refl;
         settings = λ z. absurd (ne z);
         depths = λ z. absurd (ne z);
         untouched = λ z. absurd (ne z);
-        decided = made .answer .decided;
-        in-range = made .answer .in-range;
+        decided = λ z. absurd (late z);
+        in-range = λ z. absurd (late z);
         held = λ z. absurd (ne z);
         read = λ z. absurd (ne z);
+        eight-bit = bytes;
       }
 
-  -- n is the change as it is answered
-  pub settled : (r : Decision) (n : ℤ) → n ≡ r .change → (d : Depths) (h : Held) → earlyNumber s p d₀ h₀ v b c (length x) ≡ 0 → Settled s p d₀ d h₀ h v b (filled b c x) r → SetPost s p d₀ d h₀ h v b c x (record { refusal = r .refusal; change = n; settings = withTotal s (r .total) })
-  settled r n e d h early w =
-      let made = decided-late s p d₀ h₀ v b c x r early (w .tried) (w .judged) in
+  -- settled; n is the change as it is answered
+  pub edit-settled : {rest : ℕ} (r : Decision) (n : ℤ) → n ≡ r .change → (d : Depths) (h : Held) → Passed s p d₀ h₀ b c → (w : Settled s p d₀ d h₀ h v b c rest r) → EightBit d → EditPost s p d₀ d h₀ h v b c early (subℕ (w .new) (w .old)) (record { refusal = r .refusal; change = n; settings = withTotal s (r .total) })
+  edit-settled r n e d h f w bytes =
       record {
-        found = made .answer .found;
-        number = made .answer .number;
         refused-depths = w .kept-depths;
         refused-held = w .kept-held;
-        refused-settings = λ ne. ap (withTotal s) (made .kept ne);
-        refused-change = λ ne. e ∙ made .answer .refused ne;
-        change = λ z. e ∙ made .answer .change z;
-        settings = λ z. ap (withTotal s) (made .moved z ∙ ap (λ (z : ℤ). natAbs (pos (s .total) +ℤ z)) (made .answer .change z));
+        refused-settings = λ ne. ap (withTotal s) (w .judged .kept ne);
+        refused-change = λ ne. e ∙ w .judged .refused ne;
+        change = λ z. e ∙ w .judged .change z;
+        settings = λ z. ap (withTotal s) (w .judged .moved z);
         depths = λ z. w .wrote z .depths;
         untouched = λ z. w .wrote z .untouched;
-        decided = made .answer .decided;
-        in-range = made .answer .in-range;
+        decided = λ _ sound. sum-change s p d₀ h₀ v b c (w .tried) f sound;
+        in-range = λ _ sound. sum-range s p d₀ h₀ v b c (w .tried) f sound;
         held = λ z sound. w .wrote z .held (sound .held);
         read = λ z sound. w .wrote z .read (sound .held);
+        eight-bit = bytes;
+      }
+
+-- ---- SET
+
+module _ (s : Settings) (p : Pictures) (d₀ : Depths) (h₀ : Held) (j₀ : List ℕ) (v : ℕ) (b : Block) (c : Candidate) (x : List ℕ) where
+  pub set-refused : (n : Refusal) → numberOf n ≡ earlyNumber s p d₀ h₀ v b c (length x) → (numberOf n ≡ 0 → ⊥) → EightBit d₀ → SetPost s p d₀ d₀ h₀ h₀ j₀ j₀ v b c x (record { refusal = n; change = pos 0; settings = s })
+  set-refused n e ne bytes =
+      let late : earlyNumber s p d₀ h₀ v b c (length x) ≡ 0 → ⊥ = λ z. ne (e ∙ z) in
+      record {
+        found = pos 0;
+        number = e ∙ sym (call-early s p d₀ h₀ v b c (length x) (pos 0) (savingThen s b j₀ 0) late);
+        edit = edit-refused s p d₀ h₀ v b (filled b c x) _ n ne late bytes;
+        refused-journal = λ _. refl;
+        journal = λ z. absurd (ne z);
+      }
+
+  pub set-settled : (r : Decision) (n : ℤ) → n ≡ r .change → (d : Depths) (h : Held) (j : List ℕ) → earlyNumber s p d₀ h₀ v b c (length x) ≡ 0 → Settled s p d₀ d h₀ h v b (filled b c x) (savingThen (sides (s .w) (s .h)) b j₀ 0) r → JournalSaved v b (oldDepths (sides (s .w) (s .h)) v b d₀) j₀ j r → EightBit d → SetPost s p d₀ d h₀ h j₀ j v b c x (record { refusal = r .refusal; change = n; settings = withTotal s (r .total) })
+  unfolding inRange
+  set-settled r n e d h j early w k bytes =
+      record {
+        found = subℕ (w .new) (w .old);
+        number = w .judged .number ∙ rw (saving-sides (sides (s .w) (s .h)) s b j₀ 0 refl refl) (sym (call-late s p d₀ h₀ v b c (length x) (subℕ (w .new) (w .old)) (savingThen s b j₀ 0) early));
+        edit = edit-settled s p d₀ h₀ v b (filled b c x) _ r n e d h (passed s p d₀ h₀ v b c x early) w bytes;
+        refused-journal = k .kept;
+        journal = k .recorded;
       }

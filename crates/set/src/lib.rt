@@ -1,4 +1,4 @@
-// SET writes a candidate into a block of a view, and brings the held planes and the total up to date.
+// SET writes a candidate into a block of a view, saves what stood there in the journal, and brings the held planes and the total up to date.
 use decide::Decision;
 use model::Block;
 use model::Candidate;
@@ -12,17 +12,20 @@ ghost use Prim.Native.Nat.{_≤_};
 ghost use lib.ListN.{length};
 ghost use Rattle.model.specs.Planes as planes;
 ghost use Rattle.model.specs.Candidates.{filled};
-ghost use Rattle.model.specs.Refusals.{tableOk, candidateThen, earlyNumber};
+ghost use Rattle.model.specs.Blocks.{blockDepths, oldDepths};
+ghost use Rattle.model.specs.Refusals.{tableOk, candidateThen, savingThen, earlyNumber};
 ghost use Rattle.model.specs.Promises.{SetPost};
 ghost use Rattle.trial.specs.Trial.{around, own, Sized, Fits};
 ghost use Rattle.commit.specs.Commit as commit;
 ghost use Rattle.decide.specs.Decided.{settingsOf, heldOf};
-ghost use Rattle.set.specs.Settled.{OwnSettled, Settled};
+ghost use Rattle.validate.specs.Numbers.{sides};
+ghost use Rattle.set.specs.Settled.{OwnSettled, Settled, JournalSaved};
 
-// Tries the candidate in one view and, where the total stays in range, writes it: texture, depths, samples, fronts, limits and marks are the
-// view's own, and samples2, fronts2 and marks2 the other view's.
+// Tries the candidate in one view and, where the total stays in range and the journal has room, saves what stands in the block and writes it: texture, depths,
+// samples, fronts, limits and marks are the view's own, and samples2, fronts2 and marks2 the other view's.
 fn settle(
     right: bool,
+    view: u32,
     table: &[u16; 256],
     share: u8,
     tolerance: u8,
@@ -43,17 +46,19 @@ fn settle(
     marks2: &[u8],
     combined: &mut [u16],
     reference: &[u16],
+    journal: &mut [u32],
 ) -> Decision
     requires { ⌜ (tableOk (now table) ≡ true) × (share ≤ 64) ⌝ }
     requires { ⌜ Sized w h (around right share tolerance (now samples2) (now fronts2) (now marks2) (now combined) (now reference)) (own (now table) (now texture) (now depths) (now limits)) ⌝ }
     requires { ⌜ commit.Sized w h (now texture) (now depths) (planes.view (now samples) (now fronts) (now limits) (now marks)) ⌝ }
     requires { ⌜ (Fits w h block (filled block candidate (now bytes))) × (candidateThen block candidate (length (now bytes)) 0 ≡ 0) ⌝ }
-    ensures { λ r. ⌜ OwnSettled right (now (table .entry)) share tolerance total w h block (now (texture .entry)) (filled block candidate (now (bytes .entry)))
+    ensures { λ r. ⌜ (OwnSettled right (now (table .entry)) share tolerance total w h block (savingThen (sides w h) block (now (journal .entry)) 0) (now (texture .entry)) (filled block candidate (now (bytes .entry)))
         (now (samples2 .entry)) (now (fronts2 .entry)) (now (marks2 .entry)) (now (reference .entry))
         (now (depths .entry)) (now (depths .exit))
         (planes.view (now (samples .entry)) (now (fronts .entry)) (now (limits .entry)) (now (marks .entry)))
         (planes.view (now (samples .exit)) (now (fronts .exit)) (now (limits .exit)) (now (marks .exit)))
-        (now (combined .entry)) (now (combined .exit)) r ⌝ }
+        (now (combined .entry)) (now (combined .exit)) r)
+        × (JournalSaved view block (blockDepths w block (now (depths .entry))) (now (journal .entry)) (now (journal .exit)) r) ⌝ }
 {
     let columns = w as usize;
     let rows = h as usize;
@@ -84,11 +89,13 @@ fn settle(
         reference,
     );
     let most = decide::most_total(w, h);
-    let decision = decide::judge(total, sums.old, sums.new, most);
+    let late = journal::saving(w, h, block, journal);
+    let decision = decide::judge_then(total, sums.old, sums.new, most, late);
     let refusal = decision.refusal;
     if model::number(refusal) != 0 {
         return decision;
     }
+    journal::save(view, block, columns, depths, journal);
     combine::set_block(
         right,
         table,
@@ -139,6 +146,7 @@ fn settle_view<'a>(
     rightLimits: &mut [i16],
     rightMarks: &mut [u8],
     combined: &mut [u16],
+    journal: &mut [u32],
     view: u32,
     block: Block,
     candidate: Candidate,
@@ -149,17 +157,19 @@ fn settle_view<'a>(
         (planes.depths (now leftDepths) (now rightDepths))
         (heldOf (now leftSamples) (now leftFronts) (now leftLimits) (now leftMarks) (now rightSamples) (now rightFronts) (now rightLimits) (now rightMarks) (now combined))
         view block candidate (length (now bytes)) ≡ 0 ⌝ }
-    ensures { λ r. ⌜ Settled (settingsOf w h (now (leftTable .entry)) (now (rightTable .entry)) share tolerance total)
+    ensures { λ r. ⌜ (Settled (settingsOf w h (now (leftTable .entry)) (now (rightTable .entry)) share tolerance total)
         (planes.pictures (now (left .entry)) (now (right .entry)) (now (reference .entry)))
         (planes.depths (now (leftDepths .entry)) (now (rightDepths .entry)))
         (planes.depths (now (leftDepths .exit)) (now (rightDepths .exit)))
         (heldOf (now (leftSamples .entry)) (now (leftFronts .entry)) (now (leftLimits .entry)) (now (leftMarks .entry)) (now (rightSamples .entry)) (now (rightFronts .entry)) (now (rightLimits .entry)) (now (rightMarks .entry)) (now (combined .entry)))
         (heldOf (now (leftSamples .exit)) (now (leftFronts .exit)) (now (leftLimits .exit)) (now (leftMarks .exit)) (now (rightSamples .exit)) (now (rightFronts .exit)) (now (rightLimits .exit)) (now (rightMarks .exit)) (now (combined .exit)))
-        view block (filled block candidate (now (bytes .entry))) r ⌝ }
+        view block (filled block candidate (now (bytes .entry))) (savingThen (sides w h) block (now (journal .entry)) 0) r)
+        × (JournalSaved view block (oldDepths (sides w h) view block (planes.depths (now (leftDepths .entry)) (now (rightDepths .entry)))) (now (journal .entry)) (now (journal .exit)) r) ⌝ }
 {
     if view == 1 {
         return settle(
             true,
+            view,
             rightTable,
             share,
             tolerance,
@@ -180,10 +190,12 @@ fn settle_view<'a>(
             leftMarks,
             combined,
             reference,
+            journal,
         );
     }
     settle(
         false,
+        view,
         leftTable,
         share,
         tolerance,
@@ -204,6 +216,7 @@ fn settle_view<'a>(
         rightMarks,
         combined,
         reference,
+        journal,
     )
 }
 
@@ -224,6 +237,7 @@ pub fn set(
     rightLimits: &mut [i16],
     rightMarks: &mut [u8],
     combined: &mut [u16],
+    journal: &mut [u32],
     view: u32,
     block: Block,
     candidate: Candidate,
@@ -235,6 +249,7 @@ pub fn set(
         (planes.depths (now (leftDepths .exit)) (now (rightDepths .exit)))
         (planes.held (planes.view (now (leftSamples .entry)) (now (leftFronts .entry)) (now (leftLimits .entry)) (now (leftMarks .entry))) (planes.view (now (rightSamples .entry)) (now (rightFronts .entry)) (now (rightLimits .entry)) (now (rightMarks .entry))) (now (combined .entry)))
         (planes.held (planes.view (now (leftSamples .exit)) (now (leftFronts .exit)) (now (leftLimits .exit)) (now (leftMarks .exit))) (planes.view (now (rightSamples .exit)) (now (rightFronts .exit)) (now (rightLimits .exit)) (now (rightMarks .exit))) (now (combined .exit)))
+        (now (journal .entry)) (now (journal .exit))
         view block candidate (now (bytes .entry)) r ⌝ }
 {
     let lengths = Lengths {
@@ -297,6 +312,7 @@ pub fn set(
         rightLimits,
         rightMarks,
         combined,
+        journal,
         view,
         block,
         candidate,

@@ -1,5 +1,5 @@
 -- The tests over lengths as plain facts, and the joined bits of a table's entries.
-use Prim.Native.Nat.{ℕ, suc, _+_, _*_, _<_, _≤_}
+use Prim.Native.Nat.{ℕ, suc, _+_, _*_, _^_, _<_, _≤_}
 use mathlib.Core.Path.{_≡_, refl, sym}
 use mathlib.Core.Bool.{Bool, true, false, _&&_}
 use mathlib.Core.List.{List}
@@ -88,30 +88,35 @@ and-moved : (a b c : Bool) → ((a && b) && c) ≡ (a && (b && c))
 and-moved false b c = refl
 and-moved true b c = refl
 
--- ten bits hold two numbers joined exactly when they hold both
-or-ten-bits : (m x : ℕ) → leb (bitOr m x) 1023 ≡ (leb m 1023 && leb x 1023)
-or-ten-bits m x =
+-- n bits hold two numbers joined exactly when they hold both
+or-bits : (n most m x : ℕ) → most + 1 ≡ 2 ^ n → leb (bitOr m x) most ≡ (leb m most && leb x most)
+or-bits n most m x e =
     let sum = or-add-and m x in
     let left = and-le-l m x in
     let right = and-le-r m x in
-    same-test (leb (bitOr m x) 1023) (leb m 1023 && leb x 1023)
+    same-test (leb (bitOr m x) most) (leb m most && leb x most)
     (λ t.
-    let h = leb-true (bitOr m x) 1023 t in
-    and-true (leb m 1023) (leb x 1023) (le-leb m 1023 (omega arith)) (le-leb x 1023 (omega arith)))
+    let h = leb-true (bitOr m x) most t in
+    and-true (leb m most) (leb x most) (le-leb m most (omega arith)) (le-leb x most (omega arith)))
     (λ t.
-    let h = leb-true m 1023 (and-left (leb m 1023) (leb x 1023) t) in
-    let l = leb-true x 1023 (and-right (leb m 1023) (leb x 1023) t) in
-    le-leb (bitOr m x) 1023 (omega (arith, or-lt 10 m x (omega arith) (omega arith))))
+    let h = leb-true m most (and-left (leb m most) (leb x most) t) in
+    let l = leb-true x most (and-right (leb m most) (leb x most) t) in
+    let both = or-lt n m x (rw (sym e) (omega arith)) (rw (sym e) (omega arith)) in
+    let below : bitOr m x < most + 1 = rw e both in
+    le-leb (bitOr m x) most (omega arith))
+
+or-ten-bits : (m x : ℕ) → leb (bitOr m x) 1023 ≡ (leb m 1023 && leb x 1023)
+or-ten-bits m x = or-bits 10 1023 m x refl
 
 -- the entry at i joins its bits to those before it, and past the last entry the joined bits decide
-pub picture-next : (l : List ℕ) (most i : ℕ) → i < length l → (leb (bitOr most (getD l i 0)) 1023 && upTo 1023 (drop (i + 1) l)) ≡ (leb most 1023 && upTo 1023 (drop i l))
+pub joined-next : (n most : ℕ) → most + 1 ≡ 2 ^ n → (l : List ℕ) (joined i : ℕ) → i < length l → (leb (bitOr joined (getD l i 0)) most && upTo most (drop (i + 1) l)) ≡ (leb joined most && upTo most (drop i l))
 unfolding upTo
-picture-next l most i h =
-    rw (add-one i, drop-cons l i 0 h, or-ten-bits most (getD l i 0)) (and-moved (leb most 1023) (leb (getD l i 0) 1023) (upTo 1023 (drop (suc i) l)))
+joined-next n most e l joined i h =
+    rw (add-one i, drop-cons l i 0 h, or-bits n most joined (getD l i 0) e) (and-moved (leb joined most) (leb (getD l i 0) most) (upTo most (drop (suc i) l)))
 
-pub picture-end : (l : List ℕ) (most i : ℕ) → length l ≤ i → leb most 1023 ≡ (leb most 1023 && upTo 1023 (drop i l))
+pub joined-end : (most : ℕ) (l : List ℕ) (joined i : ℕ) → length l ≤ i → leb joined most ≡ (leb joined most && upTo most (drop i l))
 unfolding upTo
-picture-end l most i h = rw (drop-of-length-le l h) (bool-cases (leb most 1023) (λ e. rw e) (λ e. rw e))
+joined-end most l joined i h = rw (drop-of-length-le l h) (bool-cases (leb joined most) (λ e. rw e) (λ e. rw e))
 
 -- five tests in another order
 and-turn : (a x y l r : Bool) → ((a && (x && y)) && (l && r)) ≡ (a && ((x && l) && (y && r)))

@@ -2,7 +2,8 @@
 --     common-number    1, 2, 3, 4, then the rest
 --     early-number     1, 2, 3, 4, 6, 5, then the candidate's own number
 --     numbers-before   1, 2, 3, 4 decide before the rest
-use Prim.Native.Nat.{ℕ, _*_}
+--     sides-passed     where none of them applies, w and h are at most 4,096
+use Prim.Native.Nat.{ℕ, _*_, _≤_}
 use mathlib.Core.Path.{_≡_, sym, _∙_}
 use mathlib.Core.Bool.{Bool, true, false, cond, _&&_}
 use mathlib.Core.List.{List}
@@ -17,7 +18,7 @@ use Rattle.model.specs.Marks.{markBytes}
 use Rattle.model.specs.Planes.{Pictures, Depths, Held, viewOf, textureOf, depthsOf}
 use Rattle.model.specs.Refusals.{sideOk, sizeOk, picturesSized, depthsSized, heldSized, planesSized, tableOk, tablesOk, blockOk, viewOk, candidateThen, commonThen, ownThen, earlyNumber}
 use Rattle.model.proofs.Choice.{bool-cases, and-true, and-left, and-right}
-use Rattle.model.proofs.Refusals.{Before, none-before, one-before, pictures-yes, pictures-facts, depths-yes, depths-facts, held-yes, held-facts}
+use Rattle.model.proofs.Refusals.{unless-true, side-facts, Before, none-before, one-before, then-before, pictures-yes, pictures-facts, depths-yes, depths-facts, held-yes, held-facts}
 use Rattle.validate.specs.declared.ViewLengths.{ViewLengths}
 use Rattle.validate.specs.declared.Lengths.{Lengths}
 use Rattle.validate.specs.Numbers.{planesFit, commonNumber, sides, ownNumber}
@@ -73,12 +74,17 @@ numbers-before w h left right share l =
     one-before (sideOk w && sideOk h) 0 _
     (one-before (planesFit w h l) 1 _ (one-before (tableOk left && tableOk right) 2 _ (one-before (leb share 64) 3 _ none-before)))
 
+-- where none of them applies, w and h are known
+pub sides-passed : (w h : ℕ) (left right : List ℕ) (share : ℕ) (l : Lengths) → commonNumber w h left right share l 0 ≡ 0 → (w ≤ 4096) × (h ≤ 4096)
+unfolding commonNumber
+sides-passed w h left right share l e =
+    let t = unless-true (sideOk w && sideOk h) 0 _ e in
+    (side-facts w (and-left (sideOk w) (sideOk h) t) .most, side-facts h (and-right (sideOk w) (sideOk h) t) .most)
+
 early-before : (w h : ℕ) (left right : List ℕ) (share : ℕ) (l : Lengths) (v : ℕ) (b : Block) → Before (λ rest. commonNumber w h left right share l (ownNumber w h v b rest))
-unfolding commonNumber ownNumber
+unfolding ownNumber
 early-before w h left right share l v b =
-    one-before (sideOk w && sideOk h) 0 _
-    (one-before (planesFit w h l) 1 _ (one-before (tableOk left && tableOk right) 2 _ (one-before (leb share 64) 3 _
-    (one-before (viewOk v) 5 _ (one-before (blockOk (sides w h) b) 4 _ none-before)))))
+    then-before (numbers-before w h left right share l) (one-before (viewOk v) 5 _ (one-before (blockOk (sides w h) b) 4 _ none-before))
 
 -- the number found without the candidate, and then with it
 pub early-number : (s : Settings) (p : Pictures) (d : Depths) (h : Held) (v : ℕ) (b : Block) (c : Candidate) (n k r : ℕ) → k ≡ commonNumber (s .w) (s .h) (s .left) (s .right) (s .share) (lengthsOf p d h) (ownNumber (s .w) (s .h) v b 0) → r ≡ cond (eqb k 0) (candidateThen b c n 0) k → r ≡ earlyNumber s p d h v b c n

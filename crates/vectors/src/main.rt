@@ -1,5 +1,5 @@
 // The session of document 01, its cases without a star, every refusal alone and before the next, samples at and above the greatest, candidates of
-// every kind, and HOLES of given marks: each line says what the entries answered.
+// every kind, SETs taken back, and HOLES of given marks: each line says what the entries answered.
 use model::Block;
 use model::Candidate;
 use model::Count;
@@ -14,7 +14,8 @@ ghost use lib.ListN.{length};
 
 // One turn of a session: GET, then SET where `write` says so, of a block of `view` and a candidate. The first `count` bytes of `room` are lent beside
 // it; in room 0 all are `depth`. The change is the one expected. Where `hand` says so, the total is first set to `total` by hand; where `spoil` does,
-// a held and a combined sample become `sample` after SET.
+// a held and a combined sample become `sample` after SET. Where `back` says so, the turn is TAKE BACK instead, of that change. The journal's word at
+// `place`, where there is one, is first set to `word` by hand.
 struct Turn {
     view: u32,
     block: Block,
@@ -28,6 +29,9 @@ struct Turn {
     total: u64,
     spoil: bool,
     sample: u16,
+    back: bool,
+    place: usize,
+    word: u32,
 }
 
 // Prints a text.
@@ -72,6 +76,23 @@ fn say_entries(word: &[u8], entries: &[u8]) {
     while i < entries.len() {
         say_number(b" ", entries[i] as u64);
         i += 1;
+    }
+}
+
+// Prints the words of a journal.
+fn say_words(word: &[u8], entries: &[u32]) {
+    say(word);
+    let mut i = 0;
+    while i < entries.len() {
+        say_number(b" ", entries[i] as u64);
+        i += 1;
+    }
+}
+
+// Prints a journal that is short; the sessions that are not about it have a longer one.
+fn say_journal(journal: &[u32]) {
+    if journal.len() < 40 {
+        say_words(b" words", journal);
     }
 }
 
@@ -128,6 +149,9 @@ fn request(view: u32, block: Block, depth: u8, change: i64, write: bool) -> Turn
         total: 0,
         spoil: false,
         sample: 0,
+        back: false,
+        place: 4096,
+        word: 0,
     }
 }
 
@@ -172,6 +196,22 @@ fn spoiled(given: Turn, sample: u16) -> Turn {
     next
 }
 
+// TAKE BACK.
+fn back(change: i64) -> Turn {
+    let block = one(0, 0);
+    let mut next = request(0, block, 0, change, false);
+    next.back = true;
+    next
+}
+
+// The same turn with a word of the journal set by hand.
+fn bent(given: Turn, place: usize, word: u32) -> Turn {
+    let mut next = given;
+    next.place = place;
+    next.word = word;
+    next
+}
+
 // GET and SET of a candidate with some bytes of a room.
 fn chosen(
     view: u32,
@@ -194,6 +234,9 @@ fn chosen(
         total: 0,
         spoil: false,
         sample: 0,
+        back: false,
+        place: 4096,
+        word: 0,
     }
 }
 
@@ -341,6 +384,44 @@ fn refused_turn(i: usize) -> Turn {
     }
 }
 
+// The turns that take back, from 100 on: three records fill the journal and a fourth finds no room; two are taken back, the space of one is used
+// again, and all are taken back, and then there is none; one is left. From 110 on a record is changed by hand: its depth is above 255, its view is
+// above 1, and 8 comes last in TAKE BACK and before 13 in SET; a depth that another wrote is taken as a SET of it would be.
+fn back_turn(i: usize) -> Turn {
+    match i {
+        100 => writes(0, 2, 4, 136),
+        101 => writes(0, 2, 5, -36),
+        102 => writes(1, 1, 5, 100),
+        103 => writes(0, 2, 0, -200),
+        104 => back(-100),
+        105 => back(36),
+        106 => writes(1, 1, 7, 0),
+        107 => back(0),
+        108 => back(-136),
+        109 => back(0),
+        110 => writes(0, 2, 4, 136),
+        111 => bent(back(-136), 7, 256),
+        112 => by_hand(bent(back(-36), 7, 5), 0),
+        113 => by_hand(bent(writes(0, 2, 0, -136), 2, 2), 136),
+        114 => by_hand(writes(0, 2, 0, -136), 0),
+        115 => by_hand(bent(back(-36), 2, 0), 136),
+        _ => refused_turn(i),
+    }
+}
+
+// The turns that take back in both views, from 120 on: the third block lies over the first, and the blocks are taken back from the last on.
+fn overlap_turn(i: usize) -> Turn {
+    match i {
+        120 => mask(part(2, 2), 5, 1, -183461),
+        121 => chosen(1, part(3, 1), Candidate::Flat(8), 0, 0, 61005),
+        122 => chosen(0, part(1, 3), Candidate::Flat(3), 0, 0, 121769),
+        123 => back(-121769),
+        124 => back(-61005),
+        125 => back(183461),
+        _ => back_turn(i),
+    }
+}
+
 // The turns at a near edge of each view, from 40 on. At the last of each its column lies two past the block's and is the greater of two that are
 // placed there, and the answer depends on it.
 fn edge_turn(i: usize) -> Turn {
@@ -353,7 +434,7 @@ fn edge_turn(i: usize) -> Turn {
         45 => writes(1, 0, 11, 500),
         46 => writes(1, 2, 3, -900),
         47 => writes(1, 2, 0, 900),
-        _ => refused_turn(i),
+        _ => overlap_turn(i),
     }
 }
 
@@ -389,6 +470,13 @@ fn spoil(yes: bool, sample: u16, plane: &mut [u16]) {
     }
 }
 
+// Changes a word of the journal by hand, where there is one.
+fn bend(place: usize, word: u32, journal: &mut [u32]) {
+    if place < journal.len() {
+        journal[place] = word;
+    }
+}
+
 // OPEN, with what it answered.
 fn opened(
     given: Settings,
@@ -406,6 +494,7 @@ fn opened(
     rightLimits: &mut [i16],
     rightMarks: &mut [u8],
     combined: &mut [u16],
+    journal: &mut [u32],
 ) -> Settings {
     let answer = open::open(
         given,
@@ -423,16 +512,18 @@ fn opened(
         rightLimits,
         rightMarks,
         combined,
+        journal,
     );
     let refusal = answer.refusal;
     let next = answer.settings;
     say_number(b": open ", model::number(refusal) as u64);
     say_number(b" total ", next.total);
+    say_journal(journal);
     say(b"\n");
     next
 }
 
-// GET, with what it answered.
+// GET, unless the turn takes back, with what it answered.
 fn tried(
     given: Settings,
     turn: Turn,
@@ -452,6 +543,9 @@ fn tried(
     combined: &[u16],
     bytes: &[u8],
 ) {
+    if turn.back {
+        return;
+    }
     let block = turn.block;
     let candidate = turn.candidate;
     let answer = get::get(
@@ -480,17 +574,17 @@ fn tried(
     say_change(b" get ", refusal, change, turn.change);
 }
 
-// Prints what SET answered.
-fn say_edited(answer: Edited, expected: i64) -> Settings {
+// Prints what SET or TAKE BACK answered.
+fn say_edited(word: &[u8], answer: Edited, expected: i64) -> Settings {
     let refusal = answer.refusal;
     let change = answer.change;
     let next = answer.settings;
-    say_change(b" set ", refusal, change, expected);
+    say_change(word, refusal, change, expected);
     say_number(b" total ", next.total);
     next
 }
 
-// SET where the turn writes, with what it answered.
+// TAKE BACK where the turn takes back, or SET where it writes, with what it answered.
 fn written(
     given: Settings,
     turn: Turn,
@@ -508,8 +602,30 @@ fn written(
     rightLimits: &mut [i16],
     rightMarks: &mut [u8],
     combined: &mut [u16],
+    journal: &mut [u32],
     bytes: &[u8],
 ) -> Settings {
+    if turn.back {
+        let answer = take_back::take_back(
+            given,
+            left,
+            right,
+            reference,
+            leftDepths,
+            rightDepths,
+            leftSamples,
+            leftFronts,
+            leftLimits,
+            leftMarks,
+            rightSamples,
+            rightFronts,
+            rightLimits,
+            rightMarks,
+            combined,
+            journal,
+        );
+        return say_edited(b" ", answer, turn.change);
+    }
     if !turn.write {
         return given;
     }
@@ -531,12 +647,13 @@ fn written(
         rightLimits,
         rightMarks,
         combined,
+        journal,
         turn.view,
         block,
         candidate,
         bytes,
     );
-    say_edited(answer, turn.change)
+    say_edited(b" set ", answer, turn.change)
 }
 
 // CHECK, with what it answered.
@@ -672,8 +789,8 @@ fn say_candidate(candidate: Candidate, room: usize, depth: u8, count: usize) {
     }
 }
 
-// Prints what a turn asks for.
-fn say_turn(turn: Turn) {
+// Prints the block and the candidate of a turn.
+fn say_asked(turn: Turn) {
     let block = turn.block;
     let candidate = turn.candidate;
     say_number(b"  view ", turn.view as u64);
@@ -682,8 +799,21 @@ fn say_turn(turn: Turn) {
     say_number(b" ", block.width as u64);
     say_number(b" ", block.height as u64);
     say_candidate(candidate, turn.room, turn.depth, turn.count);
+}
+
+// Prints what a turn asks for.
+fn say_turn(turn: Turn) {
+    if turn.back {
+        say(b"  take back");
+    } else {
+        say_asked(turn);
+    }
     if turn.hand {
         say_number(b" by hand ", turn.total);
+    }
+    if turn.place < 40 {
+        say_number(b" word ", turn.place as u64);
+        say_number(b" by hand ", turn.word as u64);
     }
     say(b":");
 }
@@ -716,6 +846,7 @@ fn edited(
     rightLimits: &mut [i16],
     rightMarks: &mut [u8],
     combined: &mut [u16],
+    journal: &mut [u32],
     bytes: &[u8],
 ) -> Settings {
     tried(
@@ -754,6 +885,7 @@ fn edited(
         rightLimits,
         rightMarks,
         combined,
+        journal,
         bytes,
     )
 }
@@ -776,6 +908,7 @@ fn took(
     rightLimits: &mut [i16],
     rightMarks: &mut [u8],
     combined: &mut [u16],
+    journal: &mut [u32],
 ) -> Settings {
     let room = bytes_of(turn.room, turn.depth);
     let count = turn.count;
@@ -799,6 +932,7 @@ fn took(
         rightLimits,
         rightMarks,
         combined,
+        journal,
         &room[..count],
     )
 }
@@ -821,8 +955,10 @@ fn moved(
     rightLimits: &mut [i16],
     rightMarks: &mut [u8],
     combined: &mut [u16],
+    journal: &mut [u32],
 ) -> Settings {
     say_turn(turn);
+    bend(turn.place, turn.word, journal);
     let next = took(
         passed(given, turn),
         turn,
@@ -840,6 +976,7 @@ fn moved(
         rightLimits,
         rightMarks,
         combined,
+        journal,
     );
     spoil(turn.spoil, turn.sample, leftSamples);
     spoil(turn.spoil, turn.sample, combined);
@@ -864,6 +1001,7 @@ fn reported(
     rightLimits: &[i16],
     rightMarks: &[u8],
     combined: &[u16],
+    journal: &[u32],
 ) {
     checked(
         given,
@@ -883,6 +1021,7 @@ fn reported(
         combined,
     );
     counted(given, view, leftMarks, rightMarks);
+    say_journal(journal);
     say(b"\n");
 }
 
@@ -904,6 +1043,7 @@ fn played(
     rightLimits: &mut [i16],
     rightMarks: &mut [u8],
     combined: &mut [u16],
+    journal: &mut [u32],
 ) -> Settings {
     let next = moved(
         given,
@@ -922,6 +1062,7 @@ fn played(
         rightLimits,
         rightMarks,
         combined,
+        journal,
     );
     reported(
         next,
@@ -940,6 +1081,7 @@ fn played(
         rightLimits,
         rightMarks,
         combined,
+        journal,
     );
     next
 }
@@ -966,6 +1108,7 @@ fn play(
     rightLimits: &mut [i16],
     rightMarks: &mut [u8],
     combined: &mut [u16],
+    journal: &mut [u32],
 ) {
     let mut now = opened(
         given,
@@ -983,6 +1126,7 @@ fn play(
         rightLimits,
         rightMarks,
         combined,
+        journal,
     );
     let mut i = start;
     while i < end {
@@ -1004,6 +1148,7 @@ fn play(
             rightLimits,
             rightMarks,
             combined,
+            journal,
         );
         i += 1;
     }
@@ -1021,6 +1166,7 @@ fn raised(
     left: &[u16],
     right: &[u16],
     reference: &[u16],
+    journal: &mut [u32],
 ) {
     let mut leftDepths = [0u8; 4];
     let mut rightDepths = [0u8; 4];
@@ -1055,6 +1201,7 @@ fn raised(
         &mut rightLimits,
         &mut rightMarks,
         &mut combined,
+        journal,
     );
 }
 
@@ -1068,6 +1215,7 @@ fn pictured(
     right: &[u16],
     reference: &[u16],
 ) {
+    let mut journal = [0u32; 64];
     raised(
         title,
         given,
@@ -1079,6 +1227,7 @@ fn pictured(
         left,
         right,
         reference,
+        &mut journal,
     );
 }
 
@@ -1088,8 +1237,26 @@ fn small(title: &[u8], given: Settings, start: usize, end: usize) {
     pictured(title, given, start, end, &texture, &texture, &texture);
 }
 
+// The same with a journal.
+fn kept(title: &[u8], given: Settings, start: usize, end: usize, journal: &mut [u32]) {
+    let texture = [10u16, 20, 30, 40];
+    raised(
+        title,
+        given,
+        start,
+        end,
+        &texture,
+        &texture,
+        &texture,
+        &texture,
+        &texture,
+        &texture,
+        journal,
+    );
+}
+
 // A session of four rows of four columns with depths of 0, and the depths after its turns.
-fn square(title: &[u8], start: usize, end: usize) {
+fn square(title: &[u8], start: usize, end: usize, journal: &mut [u32]) {
     let given = settings(4, 4, 255, 255, 16);
     let texture = [
         10u16,
@@ -1160,6 +1327,7 @@ fn square(title: &[u8], start: usize, end: usize) {
         &mut rightLimits,
         &mut rightMarks,
         &mut combined,
+        journal,
     );
     say_entries(b"  left depths", &leftDepths);
     say_entries(b"\n  right depths", &rightDepths);
@@ -1209,6 +1377,7 @@ fn wide(title: &[u8], given: Settings, start: usize, end: usize) {
     let mut rightLimits = limits();
     let mut rightMarks = marks();
     let mut combined = samples(0);
+    let mut journal = [0u32; 64];
     say(title);
     play(
         given,
@@ -1231,6 +1400,7 @@ fn wide(title: &[u8], given: Settings, start: usize, end: usize) {
         &mut rightLimits,
         &mut rightMarks,
         &mut combined,
+        &mut journal,
     );
 }
 
@@ -1249,6 +1419,7 @@ fn tall(title: &[u8], given: Settings, start: usize, end: usize) {
     let mut rightLimits = limits();
     let mut rightMarks = plane(0);
     let mut combined = samples(0);
+    let mut journal = [0u32; 64];
     say(title);
     play(
         given,
@@ -1271,6 +1442,7 @@ fn tall(title: &[u8], given: Settings, start: usize, end: usize) {
         &mut rightLimits,
         &mut rightMarks,
         &mut combined,
+        &mut journal,
     );
 }
 
@@ -1357,6 +1529,7 @@ fn run_samples() {
     let left = [10u16, 65535, 30, 40];
     let right = [10u16, 1024, 30, 40];
     let reference = [10u16, 20, 1024, 40];
+    let mut journal = [0u32; 64];
     raised(
         b"samples raised after open",
         given,
@@ -1368,6 +1541,7 @@ fn run_samples() {
         &left,
         &right,
         &reference,
+        &mut journal,
     );
     pictured(
         b"held samples raised",
@@ -1434,9 +1608,107 @@ fn run_order() {
 
 // Two regions and one value, the same depths in full, and what is refused.
 fn run_candidates() {
-    square(b"candidates", 60, 67);
-    square(b"candidates in full", 70, 77);
-    square(b"candidates refused", 80, 97);
+    let mut journal = [0u32; 128];
+    square(b"candidates", 60, 67, &mut journal);
+    square(b"candidates in full", 70, 77, &mut journal);
+    square(b"candidates refused", 80, 97, &mut journal);
+}
+
+// SETs taken back, in one view and in both; the journal of the first session is lent to the second, with a record in it.
+fn run_back() {
+    let mut journal = [9u32; 22];
+    kept(
+        b"take back",
+        settings(4, 1, 255, 255, 0),
+        100,
+        111,
+        &mut journal,
+    );
+    kept(
+        b"damaged",
+        settings(4, 1, 255, 255, 0),
+        110,
+        116,
+        &mut journal,
+    );
+    let mut words = [9u32; 29];
+    square(b"take back in both views", 120, 126, &mut words);
+}
+
+// Journals with room for all but a word of a record, for one record, and of no words, which is refused after 1 to 4 and before 21.
+fn run_words() {
+    let mut short = [9u32; 7];
+    kept(
+        b"word short",
+        settings(4, 1, 255, 255, 0),
+        100,
+        101,
+        &mut short,
+    );
+    let mut room = [9u32; 8];
+    kept(
+        b"one record",
+        settings(4, 1, 255, 255, 0),
+        100,
+        102,
+        &mut room,
+    );
+    let mut none = [0u32; 0];
+    kept(
+        b"no words",
+        settings(4, 1, 255, 255, 0),
+        109,
+        110,
+        &mut none,
+    );
+    kept(
+        b"1 before 13",
+        settings(0, 1, 255, 255, 0),
+        109,
+        110,
+        &mut none,
+    );
+    kept(
+        b"2 before 13",
+        settings(9, 1, 255, 255, 0),
+        109,
+        110,
+        &mut none,
+    );
+    kept(
+        b"3 before 13",
+        settings(4, 1, 255, 1024, 0),
+        109,
+        110,
+        &mut none,
+    );
+    kept(
+        b"4 before 13",
+        settings(4, 1, 255, 255, 65),
+        109,
+        110,
+        &mut none,
+    );
+}
+
+// OPEN with a sample of 1,024 and a journal of no words.
+fn run_words_order() {
+    let plain = [10u16, 20, 30, 40];
+    let above = [10u16, 1024, 30, 40];
+    let mut none = [0u32; 0];
+    raised(
+        b"13 before 21",
+        settings(4, 1, 255, 255, 0),
+        0,
+        0,
+        &above,
+        &plain,
+        &plain,
+        &plain,
+        &plain,
+        &plain,
+        &mut none,
+    );
 }
 
 // RENDER of some rows, what it takes and what it refuses.
@@ -1550,6 +1822,9 @@ fn main() {
     run_refused();
     run_order();
     run_candidates();
+    run_back();
+    run_words();
+    run_words_order();
     run_strips();
     run_strip_samples();
     run_strip_order();

@@ -1,4 +1,5 @@
-//! GET and SET through the library's own symbols, declared here once more: a candidate of any kind, as a C program may pass it.
+//! GET, SET and TAKE BACK through the library's own symbols, declared here once more: a candidate of any kind, as a C program
+//! may pass it, and answers that a refused call must leave alone.
 #![allow(dead_code)] // each test program uses its own part
 
 use crate::random::Tried;
@@ -44,7 +45,21 @@ extern "C" {
         right_samples: *mut u16, right_samples_len: usize, right_fronts: *mut u8, right_fronts_len: usize,
         right_limits: *mut i16, right_limits_len: usize, right_marks: *mut u8, right_marks_len: usize,
         combined: *mut u16, combined_len: usize,
+        journal: *mut u32, journal_len: usize,
         view: u32, block: Block, shape: Shape, bytes: *const u8, bytes_len: usize,
+        change: *mut i64, total: *mut u64,
+    ) -> u32;
+    fn luph_raw_take_back(
+        settings: Settings,
+        left_texture: *const u16, left_texture_len: usize, right_texture: *const u16, right_texture_len: usize,
+        reference: *const u16, reference_len: usize,
+        left_depths: *mut u8, left_depths_len: usize, right_depths: *mut u8, right_depths_len: usize,
+        left_samples: *mut u16, left_samples_len: usize, left_fronts: *mut u8, left_fronts_len: usize,
+        left_limits: *mut i16, left_limits_len: usize, left_marks: *mut u8, left_marks_len: usize,
+        right_samples: *mut u16, right_samples_len: usize, right_fronts: *mut u8, right_fronts_len: usize,
+        right_limits: *mut i16, right_limits_len: usize, right_marks: *mut u8, right_marks_len: usize,
+        combined: *mut u16, combined_len: usize,
+        journal: *mut u32, journal_len: usize,
         change: *mut i64, total: *mut u64,
     ) -> u32;
 }
@@ -85,7 +100,8 @@ pub fn get(
 
 #[rustfmt::skip]
 pub fn set(
-    settings: &mut Settings, pictures: &Pictures, planes: &mut PlanesMut, view: u32, block: Block, candidate: &Tried,
+    settings: &mut Settings, pictures: &Pictures, planes: &mut PlanesMut, journal: &mut [u32], view: u32, block: Block,
+    candidate: &Tried,
 ) -> Result<i64, Refusal> {
     let Pictures { textures: [lt, rt], reference } = pictures;
     let PlanesMut { depths: [ld, rd], samples: [ls, rs], fronts: [lf, rf], limits: [ll, rl], marks: [lm, rm], combined } = planes;
@@ -97,16 +113,42 @@ pub fn set(
             ld.as_mut_ptr(), ld.len(), rd.as_mut_ptr(), rd.len(),
             ls.as_mut_ptr(), ls.len(), lf.as_mut_ptr(), lf.len(), ll.as_mut_ptr(), ll.len(), lm.as_mut_ptr(), lm.len(),
             rs.as_mut_ptr(), rs.len(), rf.as_mut_ptr(), rf.len(), rl.as_mut_ptr(), rl.len(), rm.as_mut_ptr(), rm.len(),
-            combined.as_mut_ptr(), combined.len(), view, block, Shape::of(candidate), bytes.as_ptr(), bytes.len(), &mut change, &mut total,
+            combined.as_mut_ptr(), combined.len(), journal.as_mut_ptr(), journal.len(),
+            view, block, Shape::of(candidate), bytes.as_ptr(), bytes.len(), &mut change, &mut total,
         )
     };
+    written("SET", settings, number, change, total)
+}
+
+#[rustfmt::skip]
+pub fn take_back(
+    settings: &mut Settings, pictures: &Pictures, planes: &mut PlanesMut, journal: &mut [u32],
+) -> Result<i64, Refusal> {
+    let Pictures { textures: [lt, rt], reference } = pictures;
+    let PlanesMut { depths: [ld, rd], samples: [ls, rs], fronts: [lf, rf], limits: [ll, rl], marks: [lm, rm], combined } = planes;
+    let (mut change, mut total) = UNTOUCHED;
+    // SAFETY: pointers and lengths are those of slices that live through the call, and those lent for writing overlap no other.
+    let number = unsafe {
+        luph_raw_take_back(
+            *settings, lt.as_ptr(), lt.len(), rt.as_ptr(), rt.len(), reference.as_ptr(), reference.len(),
+            ld.as_mut_ptr(), ld.len(), rd.as_mut_ptr(), rd.len(),
+            ls.as_mut_ptr(), ls.len(), lf.as_mut_ptr(), lf.len(), ll.as_mut_ptr(), ll.len(), lm.as_mut_ptr(), lm.len(),
+            rs.as_mut_ptr(), rs.len(), rf.as_mut_ptr(), rf.len(), rl.as_mut_ptr(), rl.len(), rm.as_mut_ptr(), rm.len(),
+            combined.as_mut_ptr(), combined.len(), journal.as_mut_ptr(), journal.len(), &mut change, &mut total,
+        )
+    };
+    written("TAKE BACK", settings, number, change, total)
+}
+
+/// The answer of a call that writes: the total goes into the settings, and a refused call has touched neither.
+fn written(call: &str, settings: &mut Settings, number: u32, change: i64, total: u64) -> Result<i64, Refusal> {
     match number {
         0 => {
             settings.total = total;
             Ok(change)
         }
         _ => {
-            assert_eq!((change, total), UNTOUCHED, "a refused SET answered");
+            assert_eq!((change, total), UNTOUCHED, "a refused {call} answered");
             Err(refused(number))
         }
     }

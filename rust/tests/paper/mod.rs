@@ -1,4 +1,5 @@
-//! The independent renderer: document 01 said again as plainly as it can be, each position drawn from its owner.
+//! The independent renderer: document 01 said again as plainly as it can be, each position drawn from its owner, and the
+//! journal of card 3.
 //!
 //! It shares no code with the library and holds nothing between calls. It is slow on purpose: every question is answered
 //! by a fresh drawing of the whole picture.
@@ -20,7 +21,7 @@ pub const TAPS: [[i32; 8]; 3] = [
     [ 0, 1,  -5, 17, 58, -10, 4, -1],
 ];
 
-/// Calls read a higher entry of a texture or reference as 1,023, and GET and SET a held or combined sample so too (card 12).
+/// Calls read a higher entry of a texture or reference as 1,023, and GET, SET and TAKE BACK a held or combined sample so too (cards 12 and 3).
 pub fn read(entry: u16) -> u16 {
     if entry > WHITE {
         WHITE
@@ -326,12 +327,14 @@ pub fn common_number(settings: &Settings, pictures: &Pictures, planes: &Planes) 
     }
 }
 
-/// OPEN refuses 1, 2, 3, 4, then 21, a texture or reference entry above 1,023.
-pub fn open_number(settings: &Settings, pictures: &Pictures, planes: &Planes) -> u32 {
+/// OPEN refuses 1, 2, 3, 4, then 13, a journal of no words, then 21, a texture or reference entry above 1,023.
+pub fn open_number(settings: &Settings, pictures: &Pictures, planes: &Planes, journal: &[u32]) -> u32 {
     let common = common_number(settings, pictures, planes);
     let [left, right] = pictures.textures;
     if common != 0 {
         common
+    } else if journal.is_empty() {
+        13
     } else if [left, right, pictures.reference].into_iter().flatten().any(|&entry| entry > WHITE) {
         21
     } else {
@@ -356,19 +359,134 @@ pub fn candidate_number(block: Block, candidate: Candidate) -> u32 {
     }
 }
 
-/// GET and SET refuse 1, 2, 3, 4, 6, 5, then what the candidate's kind has, and then 8, which is left out here.
+/// A block of some width and height that reaches past no edge.
+pub fn block_is_taken(settings: &Settings, block: Block) -> bool {
+    let [column, row, width, height] = [block.column, block.row, block.width, block.height].map(u64::from);
+    width > 0 && height > 0 && column + width <= u64::from(settings.w) && row + height <= u64::from(settings.h)
+}
+
+/// GET and SET refuse 1, 2, 3, 4, 6, 5, then what the candidate's kind has, and then 8, which is left out here. What SET has
+/// after 8 is `journal_number`.
 pub fn call_number(settings: &Settings, pictures: &Pictures, planes: &Planes, view: u32, block: Block, candidate: Candidate) -> u32 {
     let common = common_number(settings, pictures, planes);
-    let [column, row, width, height] = [block.column, block.row, block.width, block.height].map(u64::from);
     if common != 0 {
         common
     } else if view > 1 {
         6
-    } else if width == 0 || height == 0 || column + width > u64::from(settings.w) || row + height > u64::from(settings.h) {
+    } else if !block_is_taken(settings, block) {
         5
     } else {
         candidate_number(block, candidate)
     }
+}
+
+/// A record of a journal (card 3): index of the one before, view, first column, first row, width, height, old depths one a word.
+#[derive(Clone, Debug, PartialEq, Eq)]
+pub struct Record {
+    pub index: u32,
+    pub before: u32,
+    pub view: u32,
+    pub block: Block,
+    pub depths: Vec<u8>,
+}
+
+impl Record {
+    /// The record that stands at an index; nothing where it is past the end, its block empty or past an edge, its view above 1
+    /// or a depth above 255.
+    pub fn read(settings: &Settings, journal: &[u32], index: u32) -> Option<Record> {
+        let words = journal.get(index as usize..)?;
+        let [before, view, column, row, width, height] = *words.first_chunk()?;
+        let block = Block { column, row, width, height };
+        if !block_is_taken(settings, block) || view > 1 {
+            return None;
+        }
+        let depths = words[6..].get(..width as usize * height as usize)?;
+        let depths = depths.iter().map(|&depth| u8::try_from(depth).ok()).collect::<Option<_>>()?;
+        Some(Record { index, before, view, block, depths })
+    }
+
+    /// The index directly after it.
+    pub fn end(&self) -> usize {
+        self.index as usize + 6 + self.depths.len()
+    }
+
+    /// Its words.
+    pub fn words(&self) -> Vec<u32> {
+        let Block { column, row, width, height } = self.block;
+        let mut words = vec![self.before, self.view, column, row, width, height];
+        words.extend(self.depths.iter().map(|&depth| u32::from(depth)));
+        words
+    }
+}
+
+/// The records of a journal, the newest first; nothing where it is refused with 13: a journal of no words, a chain that doesn't
+/// fall to zero, or a record that cannot be read.
+pub fn chain(settings: &Settings, journal: &[u32]) -> Option<Vec<Record>> {
+    let (mut records, mut index) = (Vec::new(), *journal.first()?);
+    while index > 0 {
+        let record = Record::read(settings, journal, index)?;
+        if record.before >= index {
+            return None;
+        }
+        index = record.before;
+        records.push(record);
+    }
+    Some(records)
+}
+
+/// Where the next record stands: it follows the newest, or word 0, directly.
+pub fn next_index(records: &[Record]) -> usize {
+    records.first().map_or(1, Record::end)
+}
+
+/// What SET has after 8: 13, then 11, where the words beyond the newest record can't hold the new one or its index passes 32
+/// bits. The number, 0 for none.
+pub fn journal_number(settings: &Settings, journal: &[u32], block: Block) -> u32 {
+    let Some(records) = chain(settings, journal) else { return 13 };
+    let (next, area) = (next_index(&records), block.width as usize * block.height as usize);
+    if next > u32::MAX as usize || journal.len() - next < 6 + area {
+        11
+    } else {
+        0
+    }
+}
+
+/// TAKE BACK refuses 1, 2, 3, 4, 13, 12, and then 8, which is left out here.
+pub fn take_back_number(settings: &Settings, pictures: &Pictures, planes: &Planes, journal: &[u32]) -> u32 {
+    match (common_number(settings, pictures, planes), chain(settings, journal)) {
+        (0, None) => 13,
+        (0, Some(records)) if records.is_empty() => 12,
+        (common, _) => common,
+    }
+}
+
+/// The depths of a block in row order.
+pub fn depths_of(settings: &Settings, plane: &[u8], block: Block) -> Vec<u8> {
+    let rows = block.row as usize..(block.row + block.height) as usize;
+    rows.flat_map(|y| &plane[y * settings.w as usize + block.column as usize..][..block.width as usize]).copied().collect()
+}
+
+/// The journal after an accepted SET of a block over these depths: word 0 and the new record are written.
+pub fn saved(settings: &Settings, journal: &[u32], depths: [&[u8]; 2], view: usize, block: Block) -> Vec<u32> {
+    let records = chain(settings, journal).expect("SET accepts the journal");
+    let (index, before) = (next_index(&records) as u32, journal[0]);
+    let record = Record { index, before, view: view as u32, block, depths: depths_of(settings, depths[view], block) };
+    let mut journal = journal.to_vec();
+    journal[0] = index;
+    journal[index as usize..record.end()].copy_from_slice(&record.words());
+    journal
+}
+
+/// The newest record, which TAKE BACK writes back.
+pub fn newest(settings: &Settings, journal: &[u32]) -> Record {
+    chain(settings, journal).expect("TAKE BACK accepts the journal").swap_remove(0)
+}
+
+/// The journal with another word 0: that of the record before after an accepted TAKE BACK, zero after an accepted OPEN.
+pub fn with_newest(journal: &[u32], index: u32) -> Vec<u32> {
+    let mut journal = journal.to_vec();
+    journal[0] = index;
+    journal
 }
 
 /// RENDER refuses 1, 2, 3, then 6; `lens` are those of texture, depths, samples and fronts.

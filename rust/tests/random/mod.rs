@@ -51,6 +51,16 @@ impl Random {
         (0..n).map(|_| self.next() as u16).collect()
     }
 
+    /// A word of a journal: any, a small one, a depth, or one at an edge.
+    pub fn word(&mut self) -> u32 {
+        match self.between(0, 3) {
+            0 => self.next() as u32,
+            1 => self.between(0, 9) as u32,
+            2 => self.byte().into(),
+            _ => self.pick(&[0, 1, 2, 255, 256, 4096, 4097, 65536, 1 << 31, u32::MAX - 1, u32::MAX]),
+        }
+    }
+
     /// An entry above the greatest sample.
     pub fn high(&mut self) -> u16 {
         match self.between(0, 3) {
@@ -449,6 +459,34 @@ impl Scene {
     }
 }
 
+/// A journal with anything in its words: with room for many SETs of a picture of this area, for one, or for hardly more. It has
+/// room for a SET of the whole picture once it is emptied.
+pub fn journal(random: &mut Random, area: usize) -> Guarded<u32> {
+    let one = 1 + 6 + area;
+    let most = random.pick(&[one, one + 1, one + 7, 2 * one, 5 * one, 20 * one]);
+    let length = random.between(one, most);
+    Guarded::new(&(0..length).map(|_| random.word()).collect::<Vec<u32>>(), 0x3c3c_3c3c)
+}
+
+/// One word of a journal's chain made different: word 0, or a word of one of its records. Where there is no chain, any word.
+pub fn damage_journal(random: &mut Random, settings: &Settings, words: &mut [u32]) {
+    let Some(last) = words.len().checked_sub(1) else { return };
+    let records = paper::chain(settings, words).unwrap_or_default();
+    let (mut at, mut near) = (random.between(0, last), vec![words[0], words[0].wrapping_add(1), last as u32, last as u32 + 1]);
+    if random.once_in(5) {
+        at = 0;
+    } else if !records.is_empty() {
+        let record = &records[random.between(0, records.len() - 1)];
+        let depth = 6 + random.between(0, record.depths.len() - 1);
+        at = record.index as usize + random.pick(&[0, 0, 1, 2, 3, 4, 5, depth]);
+        let Block { column, row, width, height } = record.block;
+        let Settings { w, h, .. } = *settings;
+        near.extend([record.index, record.index - 1, record.index + 1, record.end() as u32]);
+        near.extend([w, h, w - column, h - row, w - column + 1, h - row + 1, w - width, h - height, w - width + 1, h - height + 1]);
+    }
+    words[at] = if random.once_in(2) { random.pick(&near) } else { random.word() };
+}
+
 /// Entries with guards on both sides, which show a write outside.
 #[derive(Clone, PartialEq, Eq, Debug)]
 pub struct Guarded<T> {
@@ -475,13 +513,18 @@ impl<T: Copy + PartialEq> Guarded<T> {
         &mut self.all[MARGIN..end]
     }
 
-    pub fn guard(&self) -> T {
-        self.guard
-    }
-
     pub fn is_intact(&self) -> bool {
         let end = self.all.len() - MARGIN;
         self.all[..MARGIN].iter().chain(&self.all[end..]).all(|&x| x == self.guard)
+    }
+}
+
+impl<T: Copy + PartialEq + Default> Guarded<T> {
+    /// The same entries, fewer or more of them.
+    pub fn resized(&self, length: usize) -> Guarded<T> {
+        let mut entries = self.entries().to_vec();
+        entries.resize(length, T::default());
+        Guarded::new(&entries, self.guard)
     }
 }
 

@@ -62,7 +62,7 @@ returns-2 c =
     let a = start (e .before .before) in
     let s = settings a (a .args .total) in
     decided-late s (shown a) (lent a) (kept a) (a .args .view) (a .args .block) (a .args .candidate) (a .args .bytes .now) (c .judge .result) (none e (a .args .total))
-    (tried-total s (shown a) (lent a) (kept a) (a .args .view) (a .args .block) (a .args .candidate) (a .args .bytes .now) 0 (c .before .before .try-candidate .ensures))
+    (tried-total s (shown a) (lent a) (kept a) (a .args .view) (a .args .block) _ 0 (c .before .before .try-candidate .ensures))
     (rw (c .before .most-total .ensures .0) at (c .judge .ensures))
 
 pub decide-spec : {M : Type 1} → statement M

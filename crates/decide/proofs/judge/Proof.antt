@@ -13,7 +13,7 @@ use Rattle.decide.proofs.judge.Tie as tie
 returns : tie.Need-returns
 returns c =
     let r = c .refused .ensures in
-    judged-out _ _ _ _ _ (sym (c .before .before .in-range .ensures) ∙ not-true _ (c .before .if1 .taken)) (ap numberOf (r .0)) (r .1 .0) (r .1 .1)
+    judged-out _ _ _ _ _ 0 (sym (c .before .before .in-range .ensures) ∙ not-true _ (c .before .if1 .taken)) (ap numberOf (r .0)) (r .1 .0) (r .1 .1)
 
 moved-total-requires : tie.Need-moved-total-requires
 moved-total-requires c κs =

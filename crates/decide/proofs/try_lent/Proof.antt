@@ -18,7 +18,7 @@ returns : tie.Need-returns
 unfolding filled
 returns c =
     let start = c .before .before .before .before .before .before .before .before .before .before .before .before .before .before .before .before .before .before .before .before in
-    tried _ _ _ _ _ _ Full (start .args .bytes .now) true (passed _ _ _ _ _ _ Full (start .args .bytes .now) (start .pre)) (sym (c .before .before .is-right .ensures) ∙ c .before .if1 .taken) (c .trial-block .ensures)
+    tried _ _ _ _ _ _ (start .args .bytes .now) true (passed _ _ _ _ _ _ Full (start .args .bytes .now) (start .pre)) (sym (c .before .before .is-right .ensures) ∙ c .before .if1 .taken) (c .trial-block .ensures)
 
 trial-block-requires-2 : tie.Need-trial-block-requires-2
 unfolding filled
@@ -31,7 +31,7 @@ returns-2 : tie.Need-returns-2
 unfolding filled
 returns-2 c =
     let start = c .before .before .before .before .before .before .before .before .before .before .before .before .before .before .before .before .before .before .before .before in
-    tried _ _ _ _ _ _ Full (start .args .bytes .now) false (passed _ _ _ _ _ _ Full (start .args .bytes .now) (start .pre)) (sym (c .before .before .is-right .ensures) ∙ c .before .if1 .left) (c .trial-block2 .ensures)
+    tried _ _ _ _ _ _ (start .args .bytes .now) false (passed _ _ _ _ _ _ Full (start .args .bytes .now) (start .pre)) (sym (c .before .before .is-right .ensures) ∙ c .before .if1 .left) (c .trial-block2 .ensures)
 
 pub try-lent-spec : {M : Type 1} → statement M
 try-lent-spec =

@@ -4,12 +4,6 @@ use borrow.Author.Needs.{needs}
 use Rattle.luphwezane.proofs.luph_raw_open.Statement.{statement}
 use Rattle.luphwezane.proofs.luph_raw_open.Tie as tie
 
-open-requires : tie.Need-open-requires
-open-requires c κs = search needs
-
-number-requires : tie.Need-number-requires
-number-requires c κs = search needs
-
 same-length : tie.Need-same-length
 same-length c = search needs
 
@@ -37,13 +31,13 @@ same-length-8 c = search needs
 same-length-9 : tie.Need-same-length-9
 same-length-9 c = search needs
 
-returns : tie.Need-returns
-returns c =
-    let o = c .before .before .before .before .before .before .before .before .before .before .before .before .before .before .before .before .before .before .before .«open» in
-    record { reply = o .result; promised = o .ensures; number-is = c .before .before .number .ensures; accepted = λ _. refl; refused = λ ne. absurd (ne (c .before .if1 .taken)) }
-
 same-length-10 : tie.Need-same-length-10
 same-length-10 c = search needs
+
+returns : tie.Need-returns
+returns c =
+    let o = c .before .before .before .before .before .before .before .before .before .before .before .before .before .before .before .before .before .before .before .before .before .«open» in
+    record { reply = o .result; promised = o .ensures; number-is = c .before .before .number .ensures; accepted = λ _. refl; refused = λ ne. absurd (ne (c .before .if1 .taken)) }
 
 same-length-11 : tie.Need-same-length-11
 same-length-11 c = search needs
@@ -69,17 +63,23 @@ same-length-17 c = search needs
 same-length-18 : tie.Need-same-length-18
 same-length-18 c = search needs
 
+same-length-19 : tie.Need-same-length-19
+same-length-19 c = search needs
+
+same-length-20 : tie.Need-same-length-20
+same-length-20 c = search needs
+
 returns-2 : tie.Need-returns-2
 returns-2 c =
-    let o = c .before .before .before .before .before .before .before .before .before .before .before .before .before .before .before .before .before .before .«open» in
+    let o = c .before .before .before .before .before .before .before .before .before .before .before .before .before .before .before .before .before .before .before .before .«open» in
     record { reply = o .result; promised = o .ensures; number-is = c .before .number .ensures; accepted = λ z. absurd (c .if1 .left z); refused = λ _. refl }
 
 pub luph-raw-open-spec : {M : Type 1} → statement M
 luph-raw-open-spec =
     tie.close
     (tie.spec
-    open-requires
-    number-requires
+    (λ c κs. search needs)
+    (λ c κs. search needs)
     same-length
     same-length-2
     same-length-3
@@ -89,8 +89,8 @@ luph-raw-open-spec =
     same-length-7
     same-length-8
     same-length-9
-    returns
     same-length-10
+    returns
     same-length-11
     same-length-12
     same-length-13
@@ -99,4 +99,6 @@ luph-raw-open-spec =
     same-length-16
     same-length-17
     same-length-18
+    same-length-19
+    same-length-20
     returns-2)

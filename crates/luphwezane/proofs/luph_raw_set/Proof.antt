@@ -9,6 +9,9 @@ use borrow.Author.Needs.{needs}
 use Rattle.luphwezane.proofs.luph_raw_set.Statement.{statement}
 use Rattle.luphwezane.proofs.luph_raw_set.Tie as tie
 
+slice-aggregate-set : tie.Need-slice-aggregate-set
+slice-aggregate-set c = sym (length-take-le _ _ (c .before .before .before .before .before .before .before .before .before .before .before .before .before .before .lent .ensures .1))
+
 same-length : tie.Need-same-length
 same-length c = search needs
 
@@ -45,6 +48,19 @@ same-length-11 c = search needs
 same-length-12 : tie.Need-same-length-12
 same-length-12 c = search needs
 
+returns : tie.Need-returns
+unfolding bytesOf
+returns c =
+    let g = c .before .before .before .before .before .before .before .before .before .before .before .before .before .before .before .before .before .before .before .before .before .before .before .before .before .before .set in
+    let fits : SFits w64 (g .result .change) = (let told = c .struct-told in search needs) in
+    record {
+      reply = g .result;
+      promised = rw (c .before .before .before .before .before .before .before .before .before .before .before .before .before .before .before .before .before .before .before .before .before .before .before .before .before .before .before .before .candidate-of .ensures, c .before .before .before .before .before .before .before .before .before .before .before .before .before .before .before .before .before .before .before .before .before .before .before .before .before .before .before .before .before .before .before .before .before .before .before .before .before .before .before .before .before .lent .ensures .0) at (g .ensures);
+      number-is = c .before .before .before .number .ensures;
+      accepted = λ _. (toZ-ofZ fits, refl);
+      refused = λ ne. absurd (ne (c .before .before .if1 .taken));
+    }
+
 same-length-13 : tie.Need-same-length-13
 same-length-13 c = search needs
 
@@ -75,29 +91,19 @@ same-length-21 c = search needs
 same-length-22 : tie.Need-same-length-22
 same-length-22 c = search needs
 
-slice-aggregate-set : tie.Need-slice-aggregate-set
-slice-aggregate-set c = sym (length-take-le _ _ (c .before .before .before .before .before .before .before .before .before .before .before .before .before .lent .ensures .1))
+same-length-23 : tie.Need-same-length-23
+same-length-23 c = search needs
 
-returns : tie.Need-returns
-unfolding bytesOf
-returns c =
-    let g = c .before .before .before .before .before .before .before .before .before .before .before .before .before .before .before .before .before .before .before .before .before .before .before .before .set in
-    let fits : SFits w64 (g .result .change) = (let told = c .struct-told in search needs) in
-    record {
-      reply = g .result;
-      promised = rw (c .before .before .before .before .before .before .before .before .before .before .before .before .before .before .before .before .before .before .before .before .before .before .before .before .before .before .candidate-of .ensures, c .before .before .before .before .before .before .before .before .before .before .before .before .before .before .before .before .before .before .before .before .before .before .before .before .before .before .before .before .before .before .before .before .before .before .before .before .before .before .lent .ensures .0) at (g .ensures);
-      number-is = c .before .before .before .number .ensures;
-      accepted = λ _. (toZ-ofZ fits, refl);
-      refused = λ ne. absurd (ne (c .before .before .if1 .taken));
-    }
+same-length-24 : tie.Need-same-length-24
+same-length-24 c = search needs
 
 returns-2 : tie.Need-returns-2
 unfolding bytesOf
 returns-2 c =
-    let g = c .before .before .before .before .before .before .before .before .before .before .before .before .before .before .before .before .before .before .before .before .before .before .set in
+    let g = c .before .before .before .before .before .before .before .before .before .before .before .before .before .before .before .before .before .before .before .before .before .before .before .before .set in
     record {
       reply = g .result;
-      promised = rw (c .before .before .before .before .before .before .before .before .before .before .before .before .before .before .before .before .before .before .before .before .before .before .before .before .candidate-of .ensures, c .before .before .before .before .before .before .before .before .before .before .before .before .before .before .before .before .before .before .before .before .before .before .before .before .before .before .before .before .before .before .before .before .before .before .before .before .lent .ensures .0) at (g .ensures);
+      promised = rw (c .before .before .before .before .before .before .before .before .before .before .before .before .before .before .before .before .before .before .before .before .before .before .before .before .before .before .candidate-of .ensures, c .before .before .before .before .before .before .before .before .before .before .before .before .before .before .before .before .before .before .before .before .before .before .before .before .before .before .before .before .before .before .before .before .before .before .before .before .before .before .before .lent .ensures .0) at (g .ensures);
       number-is = c .before .number .ensures;
       accepted = λ z. absurd (c .if1 .left z);
       refused = λ _. (refl, refl);
@@ -123,8 +129,8 @@ luph-raw-set-spec =
     same-length-9
     same-length-10
     same-length-11
-    returns
     same-length-12
+    returns
     same-length-13
     same-length-14
     same-length-15
@@ -135,4 +141,6 @@ luph-raw-set-spec =
     same-length-20
     same-length-21
     same-length-22
+    same-length-23
+    same-length-24
     returns-2)

@@ -1,8 +1,11 @@
--- `open::refusal_of` meets its contract: 21 comes last.
+-- `open::refusal_of` meets its contract: 13, then 21 come last.
 use mathlib.Core.Path.{sym, ap, _∙_}
 use mathlib.Core.Bool.{Bool}
+use native.Mathlib.Omega.{arith}
+use borrow.Author.Tests.{lt-ltb, le-ltb}
 use borrow.Author.Needs.{needs}
-use Rattle.model.specs.Refusals.{unless}
+use Rattle.model.specs.Planes.{pictures}
+use Rattle.model.specs.Refusals.{unless, picturesOk}
 use Rattle.validate.proofs.Numbers.{numbers-before}
 use Rattle.open.proofs.refusal_of.Statement.{statement}
 use Rattle.open.proofs.refusal_of.Tie as tie
@@ -15,19 +18,29 @@ returns c =
 
 returns-2 : tie.Need-returns-2
 returns-2 c =
-    let a = c .before .before .before .before .before .before .before .before .args in
-    let e = c .before .before .before .before .common .ensures in
-    let found = sym (c .before .pictures-ok .ensures) ∙ c .if2 .taken in
-    sym (numbers-before (a .w) (a .h) (a .leftTable .now) (a .rightTable .now) (a .share) (a .lengths) .rest _ (sym e ∙ sym (c .before .before .before .number .ensures) ∙ c .before .before .if1 .left)
-    ∙ ap (λ (t : Bool). unless t 21 0) found)
+    let a = c .before .before .before .before .before .before .before .args in
+    let p = pictures (a .left .now) (a .right .now) (a .reference .now) in
+    let e = c .before .before .before .common .ensures in
+    sym (numbers-before (a .w) (a .h) (a .leftTable .now) (a .rightTable .now) (a .share) (a .lengths) .rest _ (sym e ∙ sym (c .before .before .number .ensures) ∙ c .before .if1 .left)
+    ∙ ap (λ (t : Bool). unless t 13 (unless (picturesOk p) 21 0)) (le-ltb 0 (a .words) (omega (arith, c .if2 .taken))))
 
 returns-3 : tie.Need-returns-3
 returns-3 c =
-    let a = c .before .before .before .before .before .before .before .before .args in
-    let e = c .before .before .before .before .common .ensures in
-    let found = sym (c .before .pictures-ok .ensures) ∙ c .if2 .left in
-    sym (numbers-before (a .w) (a .h) (a .leftTable .now) (a .rightTable .now) (a .share) (a .lengths) .rest _ (sym e ∙ sym (c .before .before .before .number .ensures) ∙ c .before .before .if1 .left)
-    ∙ ap (λ (t : Bool). unless t 21 0) found)
+    let a = c .before .before .before .before .before .before .before .before .before .args in
+    let p = pictures (a .left .now) (a .right .now) (a .reference .now) in
+    let e = c .before .before .before .before .before .common .ensures in
+    let found = sym (c .before .pictures-ok .ensures) ∙ c .if3 .taken in
+    sym (numbers-before (a .w) (a .h) (a .leftTable .now) (a .rightTable .now) (a .share) (a .lengths) .rest _ (sym e ∙ sym (c .before .before .before .before .number .ensures) ∙ c .before .before .before .if1 .left)
+    ∙ (ap (λ (t : Bool). unless t 13 (unless (picturesOk p) 21 0)) (lt-ltb 0 (a .words) (omega (arith, c .before .before .if2 .left))) ∙ ap (λ (t : Bool). unless t 21 0) found))
+
+returns-4 : tie.Need-returns-4
+returns-4 c =
+    let a = c .before .before .before .before .before .before .before .before .before .args in
+    let p = pictures (a .left .now) (a .right .now) (a .reference .now) in
+    let e = c .before .before .before .before .before .common .ensures in
+    let found = sym (c .before .pictures-ok .ensures) ∙ c .if3 .left in
+    sym (numbers-before (a .w) (a .h) (a .leftTable .now) (a .rightTable .now) (a .share) (a .lengths) .rest _ (sym e ∙ sym (c .before .before .before .before .number .ensures) ∙ c .before .before .before .if1 .left)
+    ∙ (ap (λ (t : Bool). unless t 13 (unless (picturesOk p) 21 0)) (lt-ltb 0 (a .words) (omega (arith, c .before .before .if2 .left))) ∙ ap (λ (t : Bool). unless t 21 0) found))
 
 pub refusal-of-spec : {M : Type 1} → statement M
 refusal-of-spec =
@@ -36,6 +49,7 @@ refusal-of-spec =
     (λ c κs. search needs)
     (λ c κs. search needs)
     returns
-    (λ c κs. search needs)
     returns-2
-    returns-3)
+    (λ c κs. search needs)
+    returns-3
+    returns-4)

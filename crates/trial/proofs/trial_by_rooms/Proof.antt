@@ -1,8 +1,8 @@
 -- `trial::trial_by_rooms` meets its contract: the sums of the rows so far, each part of them tried as a block of its own (proofs/Blocks).
-use Prim.Native.Nat.{ℕ, _+_, _-_, _*_, _/_, _≤_, _<_}
+use Prim.Native.Nat.{ℕ, _+_, _-_, _*_, _≤_}
 use mathlib.Core.Path.{_≡_, refl, sym, ap, subst, _∙_}
 use native.Mathlib.Omega.{arith}
-use native.Mathlib.Nat.{mul-comm, mul-le-mul-right, div-mul-le-self, le-div-iff-mul-le}
+use native.Mathlib.Nat.{mul-comm}
 use lib.ListN.{length}
 use lib.Seq.{length-take-le}
 use denote.Ref.{now}
@@ -11,7 +11,7 @@ use Rattle.model.specs.Candidates.{filled}
 use Rattle.planes.specs.Parts.{blockOf}
 use Rattle.fill.specs.Rows.{Started}
 use Rattle.fill.proofs.Rows.{row-there}
-use Rattle.fill.proofs.Rooms.{room-made, started-part, started-back, front-back}
+use Rattle.fill.proofs.Rooms.{room-holds, room-some, room-made, started-part, started-back, front-back}
 use Rattle.trial.specs.Trial.{around, own, BlockTrial}
 use Rattle.trial.proofs.Blocks.{block-none, block-small, block-made}
 use Rattle.trial.proofs.trial_by_rooms.Statement.{statement}
@@ -24,13 +24,6 @@ Inv-loop right table share tolerance w h column row width height texture depths 
 
 abbrev μ-loop : tie.MeasureT-loop
 μ-loop right table share tolerance w h column row width height texture depths limits candidate bytes room₀ samples fronts marks combined reference most old₀ new₀ done₀ room old new done = height - done
-
--- a room of len entries holds len div w rows
-room-holds : (n len w : ℕ) → n ≤ len / w → n * w ≤ len
-room-holds n len w h = omega (arith, mul-le-mul-right w h, div-mul-le-self len w)
-
-room-some : (len w : ℕ) → 1 ≤ w → w ≤ len → 0 < len / w
-room-some len w some h = le-div-iff-mul-le some .1 (omega arith)
 
 div-most : tie.Need-div-most Inv-loop μ-loop
 div-most c = let f = c .before .before .before .before .before .before .before .before .before .pre in omega (arith, f .1 .1 .0 .0 .some)

@@ -6,7 +6,7 @@ use lib.ListN.{length, drop}
 use lib.Dec.{leb}
 use borrow.Author.Needs.{needs}
 use Rattle.model.specs.Refusals.{pictureOk}
-use Rattle.validate.proofs.Facts.{picture-next, picture-end}
+use Rattle.validate.proofs.Facts.{joined-next, joined-end}
 use Rattle.validate.proofs.picture_ok.Statement.{statement}
 use Rattle.validate.proofs.picture_ok.Tie as tie
 
@@ -23,13 +23,13 @@ loop-again : tie.Need-loop-again Inv-loop μ-loop
 loop-again c =
     let l = c .before .before .loop in
     let a = c .before .before .before .args in
-    (omega arith, picture-next (a .picture .now) (l .joined) (l .i) (omega arith) ∙ l .inv .1)
+    (omega arith, joined-next 10 1023 refl (a .picture .now) (l .joined) (l .i) (omega arith) ∙ l .inv .1)
 
 returns : tie.Need-returns Inv-loop μ-loop
 returns c =
     let l = c .before .loop in
     let a = c .before .before .args in
-    picture-end (a .picture .now) (l .joined) (l .i) (omega arith) ∙ l .inv .1
+    joined-end 1023 (a .picture .now) (l .joined) (l .i) (omega arith) ∙ l .inv .1
 
 pub picture-ok-spec : {M : Type 1} → statement M
 picture-ok-spec =

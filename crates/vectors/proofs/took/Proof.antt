@@ -7,7 +7,7 @@ use Rattle.vectors.proofs.took.Statement.{statement}
 use Rattle.vectors.proofs.took.Tie as tie
 
 slice-aggregate-edited : tie.Need-slice-aggregate-edited
-slice-aggregate-edited c = sym (length-take-le _ (c .before .before .before .before .before .before .before .before .before .before .before .before .before .bytes-of .result) (omega arith))
+slice-aggregate-edited c = sym (length-take-le _ (c .before .before .before .before .before .before .before .before .before .before .before .before .before .before .bytes-of .result) (omega arith))
 
 pub took-spec : {M : Type 1} → statement M
 took-spec =
@@ -18,6 +18,7 @@ took-spec =
     (λ c. search needs)
     slice-aggregate-edited
     (λ c κs. search needs)
+    (λ c. search needs)
     (λ c. search needs)
     (λ c. search needs)
     (λ c. search needs)

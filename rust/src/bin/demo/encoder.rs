@@ -1,64 +1,105 @@
-//! A small search, as an encoder makes it: for each block of a view many candidates are tried and the best is kept. They are
-//! those of Test Model 8's depth modes: one value for the block; two regions parted by a line between border points; two
-//! regions told by the texture of the block, 1 where a sample is above their mean.
+//! A small search, as an encoder makes it: for each unit of a view, a block of 8 × 8, many candidates are tried. They are those
+//! of Test Model 8's depth modes: one value for the block; two regions parted by a line between border points; two regions told
+//! by the texture of the block, 1 where a sample is above their mean. Then the unit is coded as four quarters of one value each,
+//! one after the other, since each depends on those before it. Where that is worse, the quarters are taken back and the best
+//! candidate for the whole unit is set.
 
 use luphwezane::{Block, Candidate, Point, Refusal, Regions, Session, View};
 
-/// The side of a block.
+/// The side of a unit.
 pub const SIDE: u32 = 8;
 
 /// How far around a block depths are looked for.
 const REACH: u32 = 16;
 
-/// What it costs to send one value, or two with their regions, for a block: so many of them cost as much as the greatest
-/// squared error.
+/// What it costs to send one value, or two with their regions, for a block, and that a unit is coded in quarters: so many of
+/// them cost as much as the greatest squared error.
 const FLATS: i64 = 130;
 const SPLITS: i64 = 65;
+const QUARTERS: i64 = 520;
 
 /// Of so many values, the best as flat blocks, two are tried for regions.
 const VALUES: usize = 5;
 
-/// What a pass over one view did: the trials, the blocks set to one value, by a line and by a mask, and the change.
+/// What a pass over one view did: the trials, the units set to one value, by a line, by a mask and as quarters, those whose
+/// quarters were taken back, and the change.
 #[derive(Default)]
 pub struct Pass {
     pub trials: u64,
     pub values: u64,
     pub lines: u64,
     pub masks: u64,
+    pub quarters: u64,
+    pub backed_out: u64,
     pub change: i64,
 }
 
-/// Goes over the blocks of one view by rows. The pictures have samples up to `largest`; `progress` is told how many of how many
-/// blocks are done.
+/// Goes over the units of one view by rows. The pictures have samples up to `largest`; `progress` is told how many of how many
+/// units are done.
 pub fn pass(session: &mut Session, view: View, largest: u16, mut progress: impl FnMut(usize, usize)) -> Result<Pass, Refusal> {
-    let worst = i64::from(largest).pow(2);
-    let blocks = blocks(session.settings().w, session.settings().h);
+    let whole = Block { column: 0, row: 0, width: session.settings().w, height: session.settings().h };
+    let units = parts(whole, SIDE);
     let mut pass = Pass::default();
-    for (done, &block) in blocks.iter().enumerate() {
-        progress(done, blocks.len());
-        let mask = contour(session, view, block);
-        let mut trials = Trials { session, view, block, flat_cost: worst / FLATS, split_cost: worst / SPLITS, made: 0 };
-        let (cost, candidate) = trials.best(&mask)?;
-        pass.trials += trials.made;
-        if cost < 0 {
-            pass.change += session.set(view, block, candidate)?;
-            match candidate {
-                Candidate::Regions { regions: Regions::Line { .. }, .. } => pass.lines += 1,
-                Candidate::Regions { regions: Regions::Mask(_), .. } => pass.masks += 1,
-                _ => pass.values += 1,
-            }
-        }
+    for (done, &block) in units.iter().enumerate() {
+        progress(done, units.len());
+        pass.decide(session, view, block, i64::from(largest).pow(2))?;
     }
     Ok(pass)
 }
 
-/// The blocks of a picture by rows; those at the right and lower edge may be smaller.
-fn blocks(w: u32, h: u32) -> Vec<Block> {
-    let side = SIDE as usize;
-    let rows = (0..h).step_by(side);
+impl Pass {
+    /// Decides how a unit is coded, and keeps it so. `worst` is the greatest squared error.
+    fn decide(&mut self, session: &mut Session, view: View, unit: Block, worst: i64) -> Result<(), Refusal> {
+        let mask = contour(session, view, unit);
+        let mut trials = Trials::new(session, view, unit, worst);
+        let (cost, candidate) = trials.best(&mask)?;
+        self.trials += trials.made;
+        let (quarters_cost, sets) = self.set_quarters(session, view, unit, worst)?;
+        if sets > 0 && quarters_cost + worst / QUARTERS < cost.min(0) {
+            self.quarters += 1;
+        } else {
+            for _ in 0..sets {
+                self.change += session.take_back()?;
+            }
+            self.backed_out += u64::from(sets > 0);
+            if cost < 0 {
+                self.change += session.set(view, unit, candidate)?;
+                match candidate {
+                    Candidate::Regions { regions: Regions::Line { .. }, .. } => self.lines += 1,
+                    Candidate::Regions { regions: Regions::Mask(_), .. } => self.masks += 1,
+                    _ => self.values += 1,
+                }
+            }
+        }
+        session.keep();
+        Ok(())
+    }
+
+    /// Sets each quarter of a unit to its best value, where that is better than what it has. Answers the cost and how many were
+    /// set. A unit at an edge may have two quarters, or be no larger than one and have none.
+    fn set_quarters(&mut self, session: &mut Session, view: View, unit: Block, worst: i64) -> Result<(i64, usize), Refusal> {
+        let (quarters, mut sum, mut sets) = (parts(unit, SIDE / 2), 0, 0);
+        for &quarter in quarters.iter().filter(|_| quarters.len() > 1) {
+            let mut trials = Trials::new(session, view, quarter, worst);
+            let (cost, depth) = trials.flats()?[0];
+            self.trials += trials.made;
+            if cost < 0 {
+                self.change += session.set(view, quarter, Candidate::Flat(depth))?;
+                sum += cost;
+                sets += 1;
+            }
+        }
+        Ok((sum, sets))
+    }
+}
+
+/// The parts of a block that have this side, by rows; those at its right and lower edge may be smaller.
+fn parts(block: Block, side: u32) -> Vec<Block> {
+    let (right, lower) = (block.column + block.width, block.row + block.height);
+    let rows = (block.row..lower).step_by(side as usize);
     rows.flat_map(|row| {
-        let columns = (0..w).step_by(side);
-        columns.map(move |column| Block { column, row, width: SIDE.min(w - column), height: SIDE.min(h - row) })
+        let columns = (block.column..right).step_by(side as usize);
+        columns.map(move |column| Block { column, row, width: side.min(right - column), height: side.min(lower - row) })
     })
     .collect()
 }
@@ -85,13 +126,23 @@ struct Trials<'a> {
 }
 
 impl Trials<'_> {
-    /// The candidate with the least cost.
-    fn best<'m>(&mut self, mask: &'m [u8]) -> Result<(i64, Candidate<'m>), Refusal> {
+    fn new(session: &Session, view: View, block: Block, worst: i64) -> Trials<'_> {
+        Trials { session, view, block, flat_cost: worst / FLATS, split_cost: worst / SPLITS, made: 0 }
+    }
+
+    /// Values for the whole block and their costs, the least first.
+    fn flats(&mut self) -> Result<Vec<(i64, u8)>, Refusal> {
         let mut flats = Vec::new();
         for depth in self.depths() {
             flats.push((self.cost(Candidate::Flat(depth))?, depth));
         }
         flats.sort();
+        Ok(flats)
+    }
+
+    /// The candidate with the least cost.
+    fn best<'m>(&mut self, mask: &'m [u8]) -> Result<(i64, Candidate<'m>), Refusal> {
+        let flats = self.flats()?;
         let depths: Vec<u8> = flats.iter().take(VALUES).map(|&(_, depth)| depth).collect();
         let mut best = (flats[0].0, Candidate::Flat(flats[0].1));
         let values = pairs(&depths);

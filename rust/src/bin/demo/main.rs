@@ -1,5 +1,6 @@
-//! A first session to look at. An encoder-like search improves two coarse depth maps: for each block it tries a few hundred
-//! candidates with GET and keeps the best with SET. It prints a table and writes pictures.
+//! A first session to look at. An encoder-like search improves two coarse depth maps: for each unit it tries a few hundred
+//! candidates with GET, sets its quarters one by one, and takes them back where one candidate for the whole unit is better. It
+//! prints a table and writes pictures.
 
 mod encoder;
 mod pgm;
@@ -128,11 +129,11 @@ fn run(options: &Options) -> Result<(), String> {
     let depths = [&input.depths[0][..], &input.depths[1][..]];
     let mut session = Session::open(&settings, &pictures, depths).map_err(|refusal| refusal.to_string())?;
 
-    println!("Luphwezane: {}, {} × {}, blocks of {} × {}", input.name, input.w, input.h, encoder::SIDE, encoder::SIDE);
+    println!("Luphwezane: {}, {} × {}, units of {} × {}", input.name, input.w, input.h, encoder::SIDE, encoder::SIDE);
     println!();
-    print_line(["step", "trials", "one value", "line", "mask", "change of total", "total", "PSNR"]);
+    print_line(["step", "trials", "one value", "line", "mask", "quarters", "backed out", "change of total", "total", "PSNR"]);
     let largest = input.largest;
-    print_line(["open", "", "", "", "", "", &thousands(session.total() as i64), &psnr(&session, largest)]);
+    print_line(["open", "", "", "", "", "", "", "", &thousands(session.total() as i64), &psnr(&session, largest)]);
     write_inputs(&options.out, &session, largest)?;
     write_outputs(&options.out, "before", &session, largest)?;
     for round in 1..=2 {
@@ -159,15 +160,19 @@ fn improve(session: &mut Session, view: View, largest: u16, round: u32) -> Resul
     let mut progress = Progress::new(&name);
     let pass = encoder::pass(session, view, largest, |done, all| progress.show(done, all)).map_err(|refusal| refusal.to_string())?;
     progress.clear();
-    let [trials, values, lines, masks] = [pass.trials, pass.values, pass.lines, pass.masks].map(|count| thousands(count as i64));
+    let counts = [pass.trials, pass.values, pass.lines, pass.masks, pass.quarters, pass.backed_out];
+    let [trials, values, lines, masks, quarters, backed_out] = counts.map(|count| thousands(count as i64));
     let (change, total) = (thousands(pass.change), thousands(session.total() as i64));
-    print_line([&name, &trials, &values, &lines, &masks, &change, &total, &psnr(session, largest)]);
+    print_line([&name, &trials, &values, &lines, &masks, &quarters, &backed_out, &change, &total, &psnr(session, largest)]);
     Ok(())
 }
 
-/// A line of the table; between trials and change, how many blocks were set to a candidate of each kind.
-fn print_line([step, trials, values, lines, masks, change, total, psnr]: [&str; 8]) {
-    println!("{step:<14} {trials:>9}   {values:>9} {lines:>6} {masks:>6}   {change:>15}   {total:>13}   {psnr:>8}");
+/// A line of the table; between trials and change, how many units were set to a candidate of each kind and as quarters, and of
+/// how many the quarters were taken back.
+fn print_line([step, trials, values, lines, masks, quarters, backed_out, change, total, psnr]: [&str; 10]) {
+    println!(
+        "{step:<14} {trials:>9}   {values:>9} {lines:>6} {masks:>6} {quarters:>10} {backed_out:>12}   {change:>15}   {total:>13}   {psnr:>8}"
+    );
 }
 
 /// A line that is written over and over, on a terminal only.

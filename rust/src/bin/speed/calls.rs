@@ -10,7 +10,8 @@ use luphwezane::{lent, Block, Candidate, Row, Session, Settings, View};
 use std::hint::black_box;
 
 /// A kind of call; GET and SET of blocks of a side, with full blocks unless another kind is named. `Same` is GET of the full
-/// blocks that candidates of the kind fill. The candidate of a refused GET has the wrong length.
+/// blocks that candidates of the kind fill. `Back` is a SET that is taken back. The candidate of a refused GET has the wrong
+/// length.
 #[derive(Clone, Copy)]
 pub enum Call {
     Get(usize),
@@ -18,16 +19,18 @@ pub enum Call {
     Same(Kind, usize),
     Refused,
     Set(usize),
+    Back(usize),
     Open,
     Render,
 }
 
 /// The calls that are counted by position.
-pub const BY_POSITION: [(&str, Call); 6] = [
+pub const BY_POSITION: [(&str, Call); 7] = [
     ("GET at 4 × 4", Call::Get(4)),
     ("GET at 8 × 8", Call::Get(8)),
     ("GET at 64 × 64", Call::Get(64)),
     ("SET at 8 × 8", Call::Set(8)),
+    ("SET and TAKE BACK at 8 × 8", Call::Back(8)),
     ("OPEN", Call::Open),
     ("RENDER", Call::Render),
 ];
@@ -83,9 +86,14 @@ pub fn positions(stage: &Stage, call: Call, rounds: usize) -> usize {
     let picture = stage.scene.w * stage.scene.h;
     let mut span = Span::open(&stage.settings, &stage.scene);
     let mut drawn = |view, block, candidate: &[u8]| {
-        let count = span.positions(view as usize, block, candidate);
+        let mut count = span.positions(view as usize, block, candidate);
         if let Call::Set(_) = call {
             span.set(view as usize, block, candidate);
+        } else if let Call::Back(_) = call {
+            let old = span.held.read(view as usize, block);
+            span.set(view as usize, block, candidate);
+            count += span.positions(view as usize, block, &old);
+            span.set(view as usize, block, &old);
         }
         count
     };
@@ -103,7 +111,7 @@ pub fn positions(stage: &Stage, call: Call, rounds: usize) -> usize {
 fn blocks(stage: &Stage, call: Call) -> Vec<Trials> {
     let (side, count, candidates) = match call {
         Call::Get(64) => (64, 4, 2),
-        Call::Get(side) | Call::Set(side) => (side, 400 / side, 4),
+        Call::Get(side) | Call::Set(side) | Call::Back(side) => (side, 400 / side, 4),
         Call::Refused => (1, 400, 4),
         Call::Open | Call::Render | Call::Of(..) | Call::Same(..) => return Vec::new(),
     };
@@ -154,6 +162,7 @@ fn sum(mut program: impl Program, call: Call, stage: &Stage, rounds: usize) -> i
             Call::Same(..) => each_shape(&shapes, |view, block, shape| program.get(view, block, &shape.depths)),
             Call::Get(_) | Call::Refused => each(&blocks, |view, block, candidate| program.get(view, block, candidate)),
             Call::Set(_) => each(&blocks, |view, block, candidate| program.set(view, block, candidate)),
+            Call::Back(_) => each(&blocks, |view, block, candidate| program.back(view, block, candidate)),
             Call::Open => black_box(program.open()),
             Call::Render => rows(stage.scene.h, |view, y| program.render(view, y)),
         };
@@ -182,11 +191,14 @@ trait Program {
     }
 
     fn set(&mut self, view: View, block: Block, candidate: &[u8]) -> i64;
+
+    /// A SET, and the depths that were there again; the second change.
+    fn back(&mut self, view: View, block: Block, candidate: &[u8]) -> i64;
     fn open(&mut self) -> i64;
     fn render(&mut self, view: View, y: usize) -> i64;
 }
 
-/// The library: a session for GET and SET; planes and a row of its own for OPEN and RENDER, which are lent them.
+/// The library: a session for GET, SET and TAKE BACK; planes and a row of its own for OPEN and RENDER, which are lent them.
 struct Library {
     session: Session,
     settings: Settings,
@@ -215,13 +227,20 @@ impl Program for Library {
         self.session.get(view, block, shape.candidate()).expect("GET accepts it")
     }
 
+    /// Every SET finds the journal empty.
     fn set(&mut self, view: View, block: Block, candidate: &[u8]) -> i64 {
+        self.session.keep();
         self.session.set(view, block, Candidate::Full(candidate)).expect("SET accepts it")
+    }
+
+    fn back(&mut self, view: View, block: Block, candidate: &[u8]) -> i64 {
+        self.session.set(view, block, Candidate::Full(candidate)).expect("SET accepts it");
+        self.session.take_back().expect("TAKE BACK accepts it")
     }
 
     fn open(&mut self) -> i64 {
         let (pictures, mut planes) = self.held.lent();
-        lent::open(&mut self.settings, &pictures, &mut planes).expect("OPEN accepts it");
+        lent::open(&mut self.settings, &pictures, &mut planes, &mut [0]).expect("OPEN accepts it");
         self.settings.total as i64
     }
 
@@ -242,6 +261,12 @@ impl Program for Span {
         Span::set(self, view as usize, block, candidate)
     }
 
+    fn back(&mut self, view: View, block: Block, candidate: &[u8]) -> i64 {
+        let old = self.held.read(view as usize, block);
+        Span::set(self, view as usize, block, candidate);
+        Span::set(self, view as usize, block, &old)
+    }
+
     fn open(&mut self) -> i64 {
         self.draw_all();
         self.held.total as i64
@@ -260,6 +285,12 @@ impl Program for Redraw {
 
     fn set(&mut self, view: View, block: Block, candidate: &[u8]) -> i64 {
         Redraw::set(self, view as usize, block, candidate)
+    }
+
+    fn back(&mut self, view: View, block: Block, candidate: &[u8]) -> i64 {
+        let old = self.held.read(view as usize, block);
+        Redraw::set(self, view as usize, block, candidate);
+        Redraw::set(self, view as usize, block, &old)
     }
 
     fn open(&mut self) -> i64 {

@@ -87,6 +87,12 @@ impl Held {
         self.w.div_ceil(8)
     }
 
+    /// The depths of a block of one view, in row order.
+    pub fn read(&self, view: usize, block: Block) -> Vec<u8> {
+        let rows = block.row as usize..(block.row + block.height) as usize;
+        rows.flat_map(|y| &self.depths[view][y * self.w + block.column as usize..][..block.width as usize]).copied().collect()
+    }
+
     /// Writes a candidate into a block of one view's depths.
     pub fn write(&mut self, view: usize, block: Block, candidate: &[u8]) {
         let width = block.width as usize;

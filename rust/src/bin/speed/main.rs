@@ -1,6 +1,7 @@
 //! How fast the library is, as ratios measured in one run on one machine: its calls against a program that redraws the
 //! block's rows completely and against a span renderer written for speed in Rust, GET of one value, a line and a mask against
-//! GET of the same full block, HOLES against counting by the mark and by the word. All must answer alike.
+//! GET of the same full block, SET with records in its journal and TAKE BACK against SET with none, HOLES against counting by
+//! the mark and by the word. All must answer alike.
 //!
 //! It prints the tables of docs/SPEED.md. `--short` measures little and is for seeing that the answers agree.
 //! `--instructions` counts instructions, which needs valgrind.
@@ -9,6 +10,7 @@ mod calls;
 mod count;
 mod held;
 mod holes;
+mod journals;
 mod kinds;
 mod redraw;
 #[path = "../demo/scene.rs"]
@@ -59,6 +61,7 @@ fn times(effort: &Effort) {
     let stage = Stage::new(1024, 768, 96);
     let [at_4, at_8, at_64] = get_and_set(&stage, effort);
     by_kind(&stage, effort);
+    journals::print(&stage, effort);
     let open = open(&stage, effort);
     let wide = widths(effort);
     disparities(effort);
@@ -210,13 +213,16 @@ fn get(stage: &Stage, blocks: &[Trials], rounds: usize) -> [f64; 2] {
     ratios(&times)
 }
 
+/// Every SET of the library finds its journal empty; the other programs save nothing.
 fn set(stage: &Stage, blocks: &[Trials], rounds: usize) -> [f64; 2] {
     let (mut session, mut span) = (stage.session(), Span::open(&stage.settings, &stage.scene));
     let mut redraw = Redraw::open(&stage.settings, &stage.scene);
     let mut times = Vec::new();
     for trials in (0..rounds).flat_map(|_| blocks) {
-        let (library, a) =
-            trials.timed(1, |_, block, candidate| session.set(trials.view, block, Candidate::Full(candidate)).expect("SET accepts it"));
+        let (library, a) = trials.timed(1, |_, block, candidate| {
+            session.keep();
+            session.set(trials.view, block, Candidate::Full(candidate)).expect("SET accepts it")
+        });
         let (rows, b) = trials.timed(10, |view, block, candidate| redraw.set(view, block, candidate));
         let (spans, c) = trials.timed(1, |view, block, candidate| span.set(view, block, candidate));
         assert!(a == b && a == c, "the three answer SET alike");

@@ -1,0 +1,2 @@
+-- Words of a journal.
+pub mod Words

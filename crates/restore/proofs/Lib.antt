@@ -1,0 +1,3 @@
+-- Why saved depths are put back.
+pub mod Parts
+pub mod Rows

@@ -1,0 +1,2 @@
+-- What a record saved.
+pub mod Saved

@@ -1,0 +1,2 @@
+-- Why TAKE BACK keeps its promise.
+pub mod Taking

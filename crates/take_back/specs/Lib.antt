@@ -1,0 +1,2 @@
+-- What TAKE BACK reads and writes of the journal.
+pub mod Taken
