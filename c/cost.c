@@ -60,6 +60,8 @@ int main(int count, char **words) {
     settings.h = H;
     settings.share = 32;
     settings.tolerance = 4;
+    settings.widest_gap = 8;
+    settings.torn_distance = 1;
     for (int i = 0; i < 256; i++) settings.left[i] = settings.right[i] = (uint16_t)(i / 4);
     for (int v = 0; v < 2; v++) {
         for (int i = 0; i < AREA; i++) {

@@ -1,8 +1,9 @@
 /*
  * The small session of document 01 (cases k, l and m), reports, refused calls, drawn rows (case g and card 7's), samples of ten
- * bits and above, candidates of every kind, and SETs taken back, from C. Its output is compared with session.out. It compiles as
- * C99 and as C++.
+ * bits and above, candidates of every kind, SETs taken back, and a seat that moves, from C. Its output is compared with
+ * session.out. It compiles as C99 and as C++.
  */
+#include <stddef.h>
 #include <stdio.h>
 #include <string.h>
 
@@ -110,6 +111,15 @@ static void print_set(luph_settings *s, const luph_pictures *p, const luph_plane
     printf("set column %lu depth %d: %d, change %ld, total %lu\n", (unsigned long)column, d, number, (long)change, (unsigned long)s->total);
 }
 
+/* What is passed by value lies where the library reads it. */
+static void layout(void) {
+    printf("settings: %lu bytes, left %lu, right %lu, share %lu, tolerance %lu, widest_gap %lu, torn_distance %lu, total %lu\n",
+        (unsigned long)sizeof(luph_settings), (unsigned long)offsetof(luph_settings, left), (unsigned long)offsetof(luph_settings, right),
+        (unsigned long)offsetof(luph_settings, share), (unsigned long)offsetof(luph_settings, tolerance),
+        (unsigned long)offsetof(luph_settings, widest_gap), (unsigned long)offsetof(luph_settings, torn_distance),
+        (unsigned long)offsetof(luph_settings, total));
+}
+
 static void session(luph_settings *s, const luph_pictures *p, const luph_planes *q) {
     s->total = 77; /* ignored */
     print_open(s, p, q);
@@ -163,6 +173,12 @@ static void refusals(luph_settings *s, const luph_pictures *p, const luph_planes
     other.share = 64;
     other.right[255] = 1024;
     print_check(&other, p, q);
+    other.right[255] = 1023;
+    other.widest_gap = 65;
+    print_check(&other, p, q);
+    other.widest_gap = 64;
+    other.torn_distance = 4;
+    print_check(&other, p, q);
     print_holes(s, 7);
     print_check(s, p, q);
 }
@@ -184,7 +200,7 @@ static void drop(luph_pictures *p, luph_planes *q, int slice) {
 /* A NULL counts as length 0: every call refuses it with 2, as a plane without its exact length. */
 static void nulls(luph_settings *s, const luph_pictures *p, const luph_planes *q) {
     const luph_block whole = {0, 0, W, 1};
-    int refused[5] = {0, 0, 0, 0, 0};
+    int refused[6] = {0, 0, 0, 0, 0, 0};
     for (int slice = 0; slice < 14; slice++) {
         luph_pictures some = *p;
         luph_planes held = *q;
@@ -196,9 +212,10 @@ static void nulls(luph_settings *s, const luph_pictures *p, const luph_planes *q
         refused[2] += luph_set(s, &some, &held, kept(), 0, whole, luph_flat(3), &change) == LUPH_REFUSED_PLANE;
         refused[3] += luph_take_back(s, &some, &held, kept(), &change) == LUPH_REFUSED_PLANE;
         refused[4] += luph_check(s, &some, &held, &r) == LUPH_REFUSED_PLANE;
+        refused[5] += luph_move(s, &some, &held, kept(), s) == LUPH_REFUSED_PLANE;
     }
-    printf("one of 14 slices NULL, refused: open %d, get %d, set %d, take back %d, check %d\n", refused[0], refused[1], refused[2],
-        refused[3], refused[4]);
+    printf("one of 14 slices NULL, refused: open %d, get %d, set %d, take back %d, check %d, move %d\n", refused[0], refused[1],
+        refused[2], refused[3], refused[4], refused[5]);
     print_check(s, p, q);
 }
 
@@ -428,6 +445,83 @@ static void journals(luph_settings *s, const luph_pictures *p, const luph_planes
     wrong_journals(s, p, q, j);
 }
 
+/* MOVE, and what the session and word 0 of its journal are then. */
+static void print_move(const char *name, luph_settings *s, const luph_pictures *p, const luph_planes *q, luph_journal j,
+    const luph_settings *to) {
+    const int number = luph_move(s, p, q, j, to);
+    printf("%s: %d; %lu by %lu, depth 5 is shifted by %d and %d, share %d, tolerance %d, gap %d, distance %d, total %lu; word 0 is %lu\n",
+        name, number, (unsigned long)s->w, (unsigned long)s->h, s->left[5], s->right[5], s->share, s->tolerance, s->widest_gap,
+        s->torn_distance, (unsigned long)s->total, (unsigned long)j.data[0]);
+    print_samples("combined", combined);
+}
+
+/* MOVEs that are refused: the session stays. */
+static void refused_moves(luph_settings *s, const luph_pictures *p, const luph_planes *q, luph_journal j, const luph_settings *to) {
+    static const uint16_t high[W] = {14, 25, 36, 1024};
+    luph_settings wrong = *to, wide = *s;
+    luph_pictures other = *p;
+    wide.w = 4097;
+    printf("move of 4,097 columns: %d", luph_move(&wide, p, q, j, to));
+    other.reference = picture(high, W - 1);
+    printf(", a short reference %d", luph_move(s, &other, q, j, to));
+    other.reference = picture(high, W);
+    printf(", a high sample %d", luph_move(s, &other, q, j, to));
+    printf(", no words as well %d", luph_move(s, &other, q, journal(NULL, j.len), to));
+    wrong.widest_gap = 3;
+    printf(", a gap of 3 as well %d", luph_move(s, &other, q, journal(NULL, j.len), &wrong));
+    wrong.widest_gap = 65;
+    printf(", a gap of 65 %d", luph_move(s, p, q, j, &wrong));
+    wrong.widest_gap = 64;
+    wrong.torn_distance = 4;
+    printf(", a distance of 4 %d", luph_move(s, p, q, j, &wrong));
+    wrong.share = 65;
+    printf(", a share of 65 as well %d", luph_move(s, p, q, j, &wrong));
+    wrong.left[0] = 1024;
+    printf(", an entry of 1,024 as well %d\n", luph_move(s, p, q, j, &wrong));
+    print_check(s, p, q);
+}
+
+/* The seat goes half a sample to the right of the left camera, where another picture is seen, and back. */
+static void seats(luph_settings *s, const luph_pictures *p, const luph_planes *q) {
+    static const uint16_t seen[W] = {14, 25, 36, 40};
+    static uint32_t room[1 + 7];
+    const luph_journal j = journal(room, sizeof room / sizeof room[0]);
+    const luph_block b = {2, 0, 1, 1};
+    luph_settings to, middle;
+    luph_pictures there = *p;
+    memset(depth, 0, sizeof depth);
+    printf("open: %d\n", luph_open(s, p, q, j));
+    middle = to = *s;
+    there.reference = picture(seen, W);
+    print_saved(s, p, q, j, 0, b, 5);
+    to.w = to.h = 0; /* not looked at */
+    to.total = 77;   /* nor this */
+    for (int d = 0; d < 256; d++) {
+        to.left[d] = 2;
+        to.right[d] = 0;
+    }
+    refused_moves(s, p, q, j, &to);
+    print_back(s, p, q, j); /* what was set before can still be taken back */
+    print_saved(s, p, q, j, 0, b, 5);
+    print_move("move", s, &there, q, j, &to);
+    print_back(s, &there, q, j); /* 12: what was set before a MOVE stays */
+    print_check(s, &there, q);
+    print_holes(s, 0);
+    to.torn_distance = 2; /* the last column is shown two quarters past its place: no hole */
+    to.share = 32;
+    to.tolerance = 4;
+    to.widest_gap = 9;
+    print_move("other numbers", s, &there, q, j, &to);
+    print_holes(s, 0);
+    print_saved(s, &there, q, j, 0, b, 4);
+    print_back(s, &there, q, j);
+    print_move("back", s, p, q, j, &middle);
+    s->widest_gap = 9; /* case g, no longer torn */
+    print_move("to its own settings", s, p, q, j, s);
+    print_holes(s, 0);
+    print_check(s, p, q);
+}
+
 int main(void) {
     luph_settings s;
     luph_pictures p;
@@ -436,8 +530,11 @@ int main(void) {
     s.w = W;
     s.h = 1;
     s.tolerance = 255;
+    s.widest_gap = 8;
+    s.torn_distance = 1;
     for (int d = 0; d < 256; d++) s.left[d] = s.right[d] = (uint16_t)d;
     p.texture[0] = p.texture[1] = p.reference = picture(texture, W);
+    layout();
     session(&s, &p, &q);
     reports(&s, &p, &q);
     refusals(&s, &p, &q);
@@ -446,5 +543,6 @@ int main(void) {
     ten_bits(&s, &q);
     candidates(s);
     journals(&s, &p, &q);
+    seats(&s, &p, &q);
     return 0;
 }

@@ -9,8 +9,10 @@
  * luph_open fills the held planes. luph_get answers how the total would change if a block of depths were
  * replaced, and writes nothing; luph_set replaces it. What takes the block's place is a candidate: a full block of
  * depths, one value, or two regions with a value each, parted by a line or by a mask. luph_set saves the depths that
- * were there in a journal, and luph_take_back writes the newest saved ones back. Between these calls the caller keeps
- * pictures, planes and settings as the last call left them.
+ * were there in a journal, and luph_take_back writes the newest saved ones back. luph_move moves the seat, the position
+ * that the combined picture is shown from: with new settings and a new reference it draws everything again over the
+ * depths as they stand. Between these calls the caller keeps pictures, planes and settings as the last call left them;
+ * from an accepted luph_move on, the reference is the one that it was passed.
  *
  * Lengths, in entries, for w columns and h rows, all in row order:
  *
@@ -21,9 +23,10 @@
  * column are zero.
  *
  * Samples have ten bits, 0 to 1,023, in entries of 16: the textures, the reference, the drawn samples and the
- * combined picture. luph_open refuses a texture or reference with a higher entry. The other calls read a higher
- * entry of a texture or reference as 1,023, and luph_get, luph_set and luph_take_back read a higher drawn or combined
- * sample so too; luph_check compares drawn and combined samples as they are, so that a higher one is a difference.
+ * combined picture. luph_open and luph_move refuse a texture or reference with a higher entry. The other calls read a
+ * higher entry of a texture or reference as 1,023, and luph_get, luph_set and luph_take_back read a higher drawn or
+ * combined sample so too; luph_check compares drawn and combined samples as they are, so that a higher one is a
+ * difference.
  *
  * The journal is words of 32 bits, as many as the caller likes, and the caller's alone: the library keeps no copy.
  * Word 0 is the index of the newest record, 0 for none. A record is 6 words and one for each depth of its block; at
@@ -37,28 +40,30 @@
  *     word i + 5      height
  *     word i + 6 ...  the depths that were there: width * height, in row order, one a word
  *
- * luph_open empties the journal: it writes 0 to word 0. An accepted luph_set puts its record directly after the newest
- * one, or after word 0 where there is none. luph_take_back gives word 0 the index of the record before, and the next
- * luph_set uses the space again. So a journal for n SETs of blocks of width * height needs 1 + n * (6 + width * height)
- * words. luph_open and luph_take_back write word 0 alone, luph_set word 0 and its record, luph_get has no journal.
+ * luph_open and luph_move empty the journal: they write 0 to word 0. An accepted luph_set puts its record directly after
+ * the newest one, or after word 0 where there is none. luph_take_back gives word 0 the index of the record before, and the
+ * next luph_set uses the space again. So a journal for n SETs of blocks of width * height needs
+ * 1 + n * (6 + width * height) words. luph_open, luph_move and luph_take_back write word 0 alone, luph_set word 0 and its
+ * record, luph_get has no journal.
  *
  * Every luph_set and luph_take_back examines the whole chain of records before it relies on it: a call takes time for
  * each saved depth. A caller that no longer needs to take back what it set calls luph_keep, which empties the journal and
  * leaves the session as it is; one with a long list of SETs should, for example when a coding unit is decided.
  *
- * Where luph_open and every luph_set and luph_take_back of a session are passed one journal that nothing else writes,
- * no other session either, luph_take_back restores depths, held planes and total to what they were before the newest
- * SET that still stands, and answers its change negated. It is refused with 12 exactly where none stands, and 13 never
- * occurs. All of this holds again from a luph_keep on, for the SETs after it. With another journal luph_take_back writes
- * what the newest record says, whoever wrote it.
+ * Where luph_open and every luph_set, luph_take_back and luph_move of a session are passed one journal that nothing else
+ * writes, no other session either, luph_take_back restores depths, held planes and total to what they were before the
+ * newest SET that still stands, and answers its change negated. It is refused with 12 exactly where none stands, and 13
+ * never occurs. After an accepted luph_move none stands: what was set before it stays. All of this holds again from a
+ * luph_keep on, for the SETs after it. With another journal luph_take_back writes what the newest record says, whoever
+ * wrote it.
  *
  * Every call answers 0 (LUPH_ACCEPTED) or the number of the first refusal that applies, in the order given with
  * the call. A refused call writes nothing: no plane, no settings, no word of the journal, no answer.
  *
  * Planes and journal must not overlap: one that is lent for writing shares no byte with any other argument of the call,
- * nor with the bytes of a candidate. Lengths and numbers may be anything. A `data` of NULL counts as length 0. Pointers to
- * structs and to answers must be valid, and so must a slice's other than NULL; only the bytes of a candidate whose kind
- * has none may be anything.
+ * nor with the bytes of a candidate. Only luph_move's new settings may be the session's own. Lengths and numbers may be
+ * anything. A `data` of NULL counts as length 0. Pointers to structs and to answers must be valid, and so must a slice's
+ * other than NULL; only the bytes of a candidate whose kind has none may be anything.
  *
  * The library keeps no state of its own and allocates nothing. Calls on different sessions with different journals may
  * run at the same time, and so may calls that only read (luph_get, luph_check, luph_holes) on one session.
@@ -82,21 +87,31 @@ enum {
     LUPH_REFUSED_TOTAL = 8,                 /* total plus change below 0 or above 1,046,529 * w * h; never in a session that is kept as above */
     LUPH_REFUSED_JOURNAL_FULL = 11,         /* the words beyond the newest record cannot hold the new one, or its index passes 32 bits */
     LUPH_REFUSED_NOTHING_TO_TAKE_BACK = 12, /* the journal has no record */
-    LUPH_REFUSED_JOURNAL = 13,              /* a journal of no words; and, but for luph_open, one whose chain of records cannot be right */
+    LUPH_REFUSED_JOURNAL = 13,              /* a journal of no words; or, but for luph_open and luph_move, one with a wrong chain of records */
     LUPH_REFUSED_LINE = 14,                 /* a line's point inside the block or outside it, or two points on one side */
     LUPH_REFUSED_MASK = 15,                 /* a mask without (width * height + 7) / 8 bytes */
-    LUPH_REFUSED_SAMPLE = 21                /* a texture or reference entry above 1,023 */
+    LUPH_REFUSED_GAP = 20,                  /* widest_gap outside 4 to 64, or torn_distance above 3 */
+    LUPH_REFUSED_SAMPLE = 21                /* luph_open and luph_move: a texture or reference entry above 1,023 */
 };
 
-/* The settings of a session. */
+/*
+ * The settings of a session.
+ *
+ * A column's place is where its disparity shifts it to. Two neighbours whose places lie at most widest_gap apart are one
+ * surface, and what lies between them is interpolated. Further apart they are torn: the first, as the view reads the row, is
+ * shown up to torn_distance past its place, and the rest of the gap is a hole, which the far one fills. The last column of a
+ * row is shown so far too, and what is left of the row is a hole. 8 and 1 are the usual numbers.
+ */
 typedef struct luph_settings {
-    uint32_t w;          /* columns, 1 to 4,096 */
-    uint32_t h;          /* rows, 1 to 4,096 */
-    uint16_t left[256];  /* the left view's disparity of each depth, in quarter samples, 0 to 1,023 */
-    uint16_t right[256]; /* the same for the right view */
-    uint8_t share;       /* the right view's part where both views show a position, in 64ths, 0 to 64 */
-    uint8_t tolerance;   /* how far front depths may differ for both views to be mixed */
-    uint64_t total;      /* the sum of squared errors of the combined picture; luph_open, luph_set and luph_take_back write it */
+    uint32_t w;            /* columns, 1 to 4,096 */
+    uint32_t h;            /* rows, 1 to 4,096 */
+    uint16_t left[256];    /* the left view's disparity of each depth, in quarter samples, 0 to 1,023 */
+    uint16_t right[256];   /* the same for the right view */
+    uint8_t share;         /* the right view's part where both views show a position, in 64ths, 0 to 64 */
+    uint8_t tolerance;     /* how far front depths may differ for both views to be mixed */
+    uint8_t widest_gap;    /* the widest gap within one surface, in quarter samples, 4 to 64 */
+    uint8_t torn_distance; /* how far a column is shown into a hole, in quarter samples, 0 to 3 */
+    uint64_t total;        /* the combined picture's sum of squared errors; luph_open, luph_set, luph_take_back and luph_move write it */
 } luph_settings;
 
 /* Bytes that a call only reads: depths, a candidate's bytes and marks. */
@@ -141,7 +156,10 @@ typedef struct luph_pictures {
     luph_picture reference;  /* what the combined picture is measured against */
 } luph_pictures;
 
-/* The planes of a session. Depths are given to luph_open and written by luph_set and luph_take_back; the others are held. */
+/*
+ * The planes of a session. Depths are given to luph_open, written by luph_set and luph_take_back and read by luph_move; the
+ * others are held.
+ */
 typedef struct luph_planes {
     luph_out depth[2];      /* each view's depths, larger is nearer */
     luph_samples sample[2]; /* each view's drawn samples */
@@ -249,8 +267,10 @@ uint32_t luph_raw_render(luph_settings settings, uint32_t view, LUPH_RAW_IN_SAMP
     LUPH_RAW_OUT_SAMPLES(samples), LUPH_RAW_OUT(marks), LUPH_RAW_OUT(fronts));
 uint32_t luph_raw_open(luph_settings settings, LUPH_RAW_PICTURES, LUPH_RAW_DEPTHS(LUPH_RAW_IN),
     LUPH_RAW_HELD_OUT, LUPH_RAW_JOURNAL, uint64_t *total);
+uint32_t luph_raw_move(luph_settings settings, luph_settings to, LUPH_RAW_PICTURES, LUPH_RAW_DEPTHS(LUPH_RAW_IN),
+    LUPH_RAW_HELD_OUT, LUPH_RAW_JOURNAL, uint64_t *total);
 uint32_t luph_raw_get(uint32_t w, uint32_t h, const uint16_t *left, const uint16_t *right, uint8_t share, uint8_t tolerance,
-    uint64_t total, LUPH_RAW_PICTURES, LUPH_RAW_DEPTHS(LUPH_RAW_IN), LUPH_RAW_HELD_IN,
+    uint8_t widest_gap, uint8_t torn_distance, uint64_t total, LUPH_RAW_PICTURES, LUPH_RAW_DEPTHS(LUPH_RAW_IN), LUPH_RAW_HELD_IN,
     uint32_t view, luph_block block, luph_private_shape shape, LUPH_RAW_IN(bytes), int64_t *change);
 uint32_t luph_raw_set(luph_settings settings, LUPH_RAW_PICTURES, LUPH_RAW_DEPTHS(LUPH_RAW_OUT),
     LUPH_RAW_HELD_OUT, LUPH_RAW_JOURNAL, uint32_t view, luph_block block, luph_private_shape shape, LUPH_RAW_IN(bytes),
@@ -402,7 +422,7 @@ LUPH_PRIVATE_APART void luph_private_fill(luph_private_copy *x, const luph_pictu
  * between two columns of one surface is interpolated by the H.265 luma filters, in quarters, and held to 0 to
  * 1,023; the edge of a near object that hides columns begins at the rounded place, with the object's sample and
  * depth and no mark. A texture entry above 1,023 is read as 1,023. texture, depth, sample and front have s->w
- * entries, marks (s->w + 7) / 8; s->h, share, tolerance and total are not looked at. Refuses 1 (by w alone), 2, 3,
+ * entries, marks (s->w + 7) / 8; s->h, share, tolerance and total are not looked at. Refuses 1 (by w alone), 2, 3, 20,
  * then 6.
  */
 static inline int luph_render(const luph_settings *s, uint32_t view, luph_picture texture, luph_in depth, luph_samples sample,
@@ -419,7 +439,7 @@ static inline int luph_render(const luph_settings *s, uint32_t view, luph_pictur
 /*
  * OPEN: draws both views from pictures and depths into the held planes, writes the total to s->total and empties the
  * journal; the total passed in is ignored, and so is what the journal holds. Depths are only read. Refuses 1, 2, 3, 4,
- * 13 (a journal of no words), then 21: a texture or reference entry above 1,023.
+ * 20, 13 (a journal of no words), then 21: a texture or reference entry above 1,023.
  */
 static inline int luph_open(luph_settings *s, const luph_pictures *p, const luph_planes *q, luph_journal journal) {
     luph_private_copy copy;
@@ -436,9 +456,40 @@ static inline int luph_open(luph_settings *s, const luph_pictures *p, const luph
 }
 
 /*
+ * MOVE: moves the seat. Tables, share, tolerance, widest_gap and torn_distance of *to become those of the session, and the
+ * reference of p its reference; w, h and total of *to are not looked at. All rows of both views and the combined picture are
+ * drawn again over the depths as they stand, as luph_open would draw them; *s takes the new values and the new total, and
+ * the journal is emptied, so that no SET before it can be taken back. p's textures are the session's. Depths are only read,
+ * and what the held planes and the journal hold is not looked at. `to` may be `s`.
+ *
+ * Refuses as OPEN does, judged by w and h of *s and by what is new: 1, 2, 3, 4, 20, 13 (a journal of no words), then 21. A
+ * refused MOVE leaves the session as it was; the calls after it are passed the reference that it had.
+ */
+static inline int luph_move(luph_settings *s, const luph_pictures *p, const luph_planes *q, luph_journal journal,
+    const luph_settings *to) {
+    luph_private_copy copy;
+    if (luph_private_has_null(p, q)) {
+        luph_private_fill(&copy, p, q);
+        p = &copy.pictures;
+        q = &copy.planes;
+    }
+    journal = luph_private_journal(journal);
+    uint64_t total = 0;
+    const uint32_t number = luph_raw_move(*s, *to, LUPH_RAW_ALL(p, q), LUPH_RAW_SLICE(journal), &total);
+    if (number == 0) {
+        luph_settings moved = *to;
+        moved.w = s->w;
+        moved.h = s->h;
+        moved.total = total;
+        *s = moved;
+    }
+    return (int)number;
+}
+
+/*
  * GET: answers in *change how the total would change if the block of the view's depths were the candidate: a full
  * block's depths, or the values of one value, a line or a mask at the positions that they fill. Reads samples above
- * 1,023, of the pictures and of the planes, as 1,023. Writes no plane. Refuses 1, 2, 3, 4, 6, 5, then by the
+ * 1,023, of the pictures and of the planes, as 1,023. Writes no plane. Refuses 1, 2, 3, 4, 20, 6, 5, then by the
  * candidate's kind 7 (a full block, or an unknown kind), 14 (a line) or 15 (a mask), then 8.
  */
 static inline int luph_get(const luph_settings *s, const luph_pictures *p, const luph_planes *q, uint32_t view, luph_block b,
@@ -451,8 +502,8 @@ static inline int luph_get(const luph_settings *s, const luph_pictures *p, const
     }
     const luph_in bytes = luph_private_bytes(candidate);
     int64_t found; /* written by an accepted call */
-    const uint32_t number = luph_raw_get(s->w, s->h, s->left, s->right, s->share, s->tolerance, s->total,
-        LUPH_RAW_ALL(p, q), view, b, luph_private_shape_of(candidate), LUPH_RAW_SLICE(bytes), &found);
+    const uint32_t number = luph_raw_get(s->w, s->h, s->left, s->right, s->share, s->tolerance, s->widest_gap, s->torn_distance,
+        s->total, LUPH_RAW_ALL(p, q), view, b, luph_private_shape_of(candidate), LUPH_RAW_SLICE(bytes), &found);
     if (number == 0) *change = found;
     return (int)number;
 }
@@ -491,7 +542,7 @@ static inline int luph_set(luph_settings *s, const luph_pictures *p, const luph_
 /*
  * TAKE BACK: writes the depths of the journal's newest record into its block as a SET of them would, answers the change
  * in *change and the new total in s->total as that SET would, saves nothing, and gives word 0 of the journal the index of
- * the record before. Reads samples as GET does. Refuses 1, 2, 3, 4, 13 as SET does, 12, then 8.
+ * the record before. Reads samples as GET does. Refuses 1, 2, 3, 4, 20, 13 as SET does, 12, then 8.
  */
 static inline int luph_take_back(luph_settings *s, const luph_pictures *p, const luph_planes *q, luph_journal journal,
     int64_t *change) {
@@ -524,7 +575,7 @@ static inline void luph_keep(luph_journal journal) {
  * CHECK: compares every held entry with a fresh drawing of the depths and answers in *r: sound, or row and column
  * of the first difference by rows, or the total if only that differs. Bits past a row's last column count with
  * that column. The fresh drawing reads texture and reference entries above 1,023 as 1,023; held samples are compared
- * as they are. Writes no plane. Refuses 1, 2, 3, 4.
+ * as they are. Writes no plane. Refuses 1, 2, 3, 4, 20.
  */
 static inline int luph_check(const luph_settings *s, const luph_pictures *p, const luph_planes *q, luph_report *r) {
     luph_private_copy copy;

@@ -9,7 +9,8 @@
 /// use luphwezane::{Block, Candidate, Pictures, Point, Refusal, Session, Settings, View};
 ///
 /// let table = std::array::from_fn(|d| d as u16);
-/// let settings = Settings { w: 3, h: 3, left: table, right: table, share: 0, tolerance: 255, total: 0 };
+/// let settings =
+///     Settings { w: 3, h: 3, left: table, right: table, share: 0, tolerance: 255, widest_gap: 8, torn_distance: 1, total: 0 };
 /// let texture = [10, 20, 30, 40, 50, 60, 70, 80, 90];
 /// let pictures = Pictures { textures: [&texture, &texture], reference: &texture };
 /// let mut session = Session::open(&settings, &pictures, [&[0; 9], &[0; 9]])?;

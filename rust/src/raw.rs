@@ -49,8 +49,21 @@ extern "C" {
         journal: *mut u32, journal_len: usize,
         total: *mut u64,
     ) -> u32;
+    fn luph_raw_move(
+        settings: Settings, to: Settings,
+        left_texture: *const u16, left_texture_len: usize, right_texture: *const u16, right_texture_len: usize,
+        reference: *const u16, reference_len: usize,
+        left_depths: *const u8, left_depths_len: usize, right_depths: *const u8, right_depths_len: usize,
+        left_samples: *mut u16, left_samples_len: usize, left_fronts: *mut u8, left_fronts_len: usize,
+        left_limits: *mut i16, left_limits_len: usize, left_marks: *mut u8, left_marks_len: usize,
+        right_samples: *mut u16, right_samples_len: usize, right_fronts: *mut u8, right_fronts_len: usize,
+        right_limits: *mut i16, right_limits_len: usize, right_marks: *mut u8, right_marks_len: usize,
+        combined: *mut u16, combined_len: usize,
+        journal: *mut u32, journal_len: usize,
+        total: *mut u64,
+    ) -> u32;
     fn luph_raw_get(
-        w: u32, h: u32, left: *const u16, right: *const u16, share: u8, tolerance: u8, total: u64,
+        w: u32, h: u32, left: *const u16, right: *const u16, share: u8, tolerance: u8, widest_gap: u8, torn_distance: u8, total: u64,
         left_texture: *const u16, left_texture_len: usize, right_texture: *const u16, right_texture_len: usize,
         reference: *const u16, reference_len: usize,
         left_depths: *const u8, left_depths_len: usize, right_depths: *const u8, right_depths_len: usize,
@@ -120,7 +133,7 @@ fn accepted<T>(number: u32, answer: T) -> Result<T, Refusal> {
 ///
 /// Texture, depths, samples and fronts have `settings.w` entries, marks (w + 7) / 8 bytes; h, share, tolerance and
 /// total are not looked at. A texture entry above 1,023 is read as 1,023. View 0 is left, view 1 right. Refuses 1 (by w
-/// alone), 2, 3, then 6.
+/// alone), 2, 3, 20, then 6.
 #[rustfmt::skip]
 pub fn render(
     settings: &Settings, view: u32, texture: &[u16], depths: &[u8], samples: &mut [u16], marks: &mut [u8], fronts: &mut [u8],
@@ -138,7 +151,7 @@ pub fn render(
 /// OPEN: draws both views from pictures and depths into the held planes, writes the total into the settings and empties the
 /// journal: its word 0 becomes 0.
 ///
-/// The total passed in is ignored, and so is what the journal holds; the depths are only read. Refuses 1, 2, 3, 4, 13 (a
+/// The total passed in is ignored, and so is what the journal holds; the depths are only read. Refuses 1, 2, 3, 4, 20, 13 (a
 /// journal of no words), then 21: a texture or reference entry above 1,023.
 #[rustfmt::skip]
 pub fn open(settings: &mut Settings, pictures: &Pictures, planes: &mut PlanesMut, journal: &mut [u32]) -> Result<(), Refusal> {
@@ -159,10 +172,41 @@ pub fn open(settings: &mut Settings, pictures: &Pictures, planes: &mut PlanesMut
     Ok(())
 }
 
+/// MOVE: moves the seat. Tables, share, tolerance, widest gap and torn distance of `to` become those of the settings, and the
+/// reference of `pictures` is the session's from then on; w, h and total of `to` are not looked at.
+///
+/// All rows of both views and the combined picture are drawn again over the depths as they stand, the new total is written into
+/// the settings, and the journal is emptied: its word 0 becomes 0, and no SET before can be taken back. The textures are the
+/// session's. The depths are only read; what the held planes and the journal hold is not looked at.
+///
+/// Refuses as [`open`] does, judged by w and h of `settings` and by what is new: 1, 2, 3, 4, 20, 13 (a journal of no words),
+/// then 21. A refused MOVE leaves the session as it was, with the reference that it had.
+#[rustfmt::skip]
+pub fn move_seat(
+    settings: &mut Settings, pictures: &Pictures, planes: &mut PlanesMut, journal: &mut [u32], to: &Settings,
+) -> Result<(), Refusal> {
+    let Pictures { textures: [lt, rt], reference } = pictures;
+    let PlanesMut { depths: [ld, rd], samples: [ls, rs], fronts: [lf, rf], limits: [ll, rl], marks: [lm, rm], combined } = planes;
+    let mut total = 0;
+    // SAFETY: see above.
+    let number = unsafe {
+        luph_raw_move(
+            *settings, *to, lt.as_ptr(), lt.len(), rt.as_ptr(), rt.len(), reference.as_ptr(), reference.len(),
+            ld.as_ptr(), ld.len(), rd.as_ptr(), rd.len(),
+            ls.as_mut_ptr(), ls.len(), lf.as_mut_ptr(), lf.len(), ll.as_mut_ptr(), ll.len(), lm.as_mut_ptr(), lm.len(),
+            rs.as_mut_ptr(), rs.len(), rf.as_mut_ptr(), rf.len(), rl.as_mut_ptr(), rl.len(), rm.as_mut_ptr(), rm.len(),
+            combined.as_mut_ptr(), combined.len(), journal.as_mut_ptr(), journal.len(), &mut total,
+        )
+    };
+    let total = accepted(number, total)?;
+    *settings = Settings { w: settings.w, h: settings.h, total, ..*to };
+    Ok(())
+}
+
 /// GET: how the total would change if the block of the view's depths were the candidate. Nothing is written.
 ///
 /// Samples above 1,023, of the pictures and of the planes, are read as 1,023. View 0 is left, view 1 right. Refuses 1, 2, 3, 4,
-/// 6, 5, then by the candidate's kind 7 (a full block), 14 (a line) or 15 (a mask), then 8.
+/// 20, 6, 5, then by the candidate's kind 7 (a full block), 14 (a line) or 15 (a mask), then 8.
 #[rustfmt::skip]
 #[inline]
 pub fn get(
@@ -176,7 +220,8 @@ pub fn get(
     let number = unsafe {
         luph_raw_get(
             settings.w, settings.h, settings.left.as_ptr(), settings.right.as_ptr(), settings.share, settings.tolerance,
-            settings.total, lt.as_ptr(), lt.len(), rt.as_ptr(), rt.len(), reference.as_ptr(), reference.len(),
+            settings.widest_gap, settings.torn_distance, settings.total,
+            lt.as_ptr(), lt.len(), rt.as_ptr(), rt.len(), reference.as_ptr(), reference.len(),
             ld.as_ptr(), ld.len(), rd.as_ptr(), rd.len(),
             ls.as_ptr(), ls.len(), lf.as_ptr(), lf.len(), ll.as_ptr(), ll.len(), lm.as_ptr(), lm.len(),
             rs.as_ptr(), rs.len(), rf.as_ptr(), rf.len(), rl.as_ptr(), rl.len(), rm.as_ptr(), rm.len(),
@@ -219,7 +264,7 @@ pub fn set(
 /// journal the index of the record before. Answers the change and writes the new total into the settings as that SET would;
 /// nothing is saved.
 ///
-/// Reads samples as [`get`] does. Refuses 1, 2, 3, 4, 13, 12, then 8.
+/// Reads samples as [`get`] does. Refuses 1, 2, 3, 4, 20, 13, 12, then 8.
 #[rustfmt::skip]
 pub fn take_back(
     settings: &mut Settings, pictures: &Pictures, planes: &mut PlanesMut, journal: &mut [u32],
@@ -251,7 +296,7 @@ pub fn keep(journal: &mut [u32]) {
 /// CHECK: compares every held entry with a fresh drawing of the depths. Nothing is written.
 ///
 /// The fresh drawing reads texture and reference entries above 1,023 as 1,023; held samples are compared as they are.
-/// Refuses 1, 2, 3, 4.
+/// Refuses 1, 2, 3, 4, 20.
 #[rustfmt::skip]
 pub fn check(settings: &Settings, pictures: &Pictures, planes: &Planes) -> Result<Report, Refusal> {
     let Pictures { textures: [lt, rt], reference } = pictures;

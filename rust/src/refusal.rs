@@ -29,21 +29,23 @@ pub enum Refusal {
     JournalFull = 11,
     /// 12: the journal has no record.
     NothingToTakeBack = 12,
-    /// 13: a journal of no words; and, but for OPEN, one with a chain that does not fall to 0, or with a record past its end, of a
-    /// block that is empty or reaches past an edge, of a view above 1 or with a depth above 255. It never occurs in a
+    /// 13: a journal of no words; and, but for OPEN and MOVE, one with a chain that does not fall to 0, or with a record past its
+    /// end, of a block that is empty or reaches past an edge, of a view above 1 or with a depth above 255. It never occurs in a
     /// [`Session`](crate::Session).
     Journal = 13,
     /// 14: a line's point inside the block or outside it, or two points on one side.
     Line = 14,
     /// 15: a mask that does not have (width × height + 7) / 8 bytes.
     Mask = 15,
+    /// 20: the widest gap outside 4 to 64, or the torn distance above 3.
+    Gap = 20,
     /// 21: a texture or reference entry above 1,023.
     Sample = 21,
 }
 
 impl Refusal {
     /// Every refusal, in the order of its number.
-    pub const ALL: [Refusal; 14] = [
+    pub const ALL: [Refusal; 15] = [
         Refusal::Size,
         Refusal::Plane,
         Refusal::Table,
@@ -57,6 +59,7 @@ impl Refusal {
         Refusal::Journal,
         Refusal::Line,
         Refusal::Mask,
+        Refusal::Gap,
         Refusal::Sample,
     ];
 
@@ -87,6 +90,7 @@ impl fmt::Display for Refusal {
             Refusal::Journal => "the journal has no words or a record that cannot be right",
             Refusal::Line => "the line does not join two border points of the block that have no side in common",
             Refusal::Mask => "the mask does not have (width × height + 7) / 8 bytes",
+            Refusal::Gap => "the widest gap is outside 4 to 64 or the torn distance above 3",
             Refusal::Sample => "a texture or reference sample is above 1,023",
         };
         write!(f, "refused ({}): {why}", self.number())

@@ -5,9 +5,9 @@ use std::fmt;
 
 /// Two drawn views, the picture combined from them and the total of its squared errors, held for a pair of depth planes.
 ///
-/// A session owns copies of its pictures and depths, and nothing but [`set`](Session::set) and
-/// [`take_back`](Session::take_back) changes it. It is therefore always sound: every held plane and the total are those of a
-/// fresh drawing of the depths as they stand.
+/// A session owns copies of its pictures and depths, and nothing but [`set`](Session::set),
+/// [`take_back`](Session::take_back) and [`move_seat`](Session::move_seat) changes it. It is therefore always sound: every held
+/// plane and the total are those of a fresh drawing of the depths as they stand.
 ///
 /// It also has a journal of the depths that its SETs replaced, which grows with them: 6 words and one for each depth of the
 /// block, 4 bytes each. [`keep`](Session::keep) empties it.
@@ -16,7 +16,8 @@ use std::fmt;
 /// use luphwezane::{Block, Candidate, Pictures, Refusal, Session, Settings, View};
 ///
 /// let table = std::array::from_fn(|d| d as u16);
-/// let settings = Settings { w: 8, h: 2, left: table, right: table, share: 32, tolerance: 255, total: 0 };
+/// let settings =
+///     Settings { w: 8, h: 2, left: table, right: table, share: 32, tolerance: 255, widest_gap: 8, torn_distance: 1, total: 0 };
 /// let texture: Vec<u16> = (0..16).map(|x| 60 * x).collect();
 /// let pictures = Pictures { textures: [&texture, &texture], reference: &texture };
 /// let mut session = Session::open(&settings, &pictures, [&[0; 16], &[0; 16]])?;
@@ -56,7 +57,7 @@ impl Session {
     ///
     /// # Errors
     /// Refuses [`Size`](Refusal::Size), [`Plane`](Refusal::Plane), [`Table`](Refusal::Table),
-    /// [`Share`](Refusal::Share) and [`Sample`](Refusal::Sample), in this order.
+    /// [`Share`](Refusal::Share), [`Gap`](Refusal::Gap) and [`Sample`](Refusal::Sample), in this order.
     pub fn open(settings: &Settings, pictures: &Pictures, depths: [&[u8]; 2]) -> Result<Session, Refusal> {
         let (area, packed) = lengths(settings);
         let mut session = Session {
@@ -74,6 +75,42 @@ impl Session {
         let (settings, pictures, mut planes, journal) = session.lent();
         lent::open(settings, &pictures, &mut planes, journal)?;
         Ok(session)
+    }
+
+    /// Moves the seat, the place that the combined picture is shown from: tables, share, tolerance, widest gap and torn distance
+    /// become those of `to`, whose w, h and total are not looked at, and the reference becomes a copy of this one. Everything is
+    /// drawn again over the depths as they stand, as [`open`](Session::open) would draw it. What was set before stays: it can no
+    /// longer be taken back.
+    ///
+    /// ```
+    /// use luphwezane::{Block, Candidate, Pictures, Refusal, Session, Settings, View};
+    ///
+    /// // Depth d is shifted by d quarters of a sample for a seat in the middle, by nothing for one at the left camera.
+    /// let table = std::array::from_fn(|d| d as u16);
+    /// let middle =
+    ///     Settings { w: 4, h: 1, left: table, right: table, share: 32, tolerance: 255, widest_gap: 8, torn_distance: 1, total: 0 };
+    /// let twice = std::array::from_fn(|d| 2 * d as u16);
+    /// let at_left = Settings { left: [0; 256], right: twice, share: 0, ..middle };
+    ///
+    /// let (left, right) = ([10, 20, 30, 40], [20, 30, 40, 50]);
+    /// let pictures = Pictures { textures: [&left, &right], reference: &[15, 25, 35, 45] };
+    /// let mut session = Session::open(&middle, &pictures, [&[2; 4], &[2; 4]])?;
+    /// session.set(View::Left, Block { column: 0, row: 0, width: 1, height: 1 }, Candidate::Flat(0))?;
+    /// session.move_seat(&at_left, &left)?;
+    /// assert_eq!((session.planes().combined, session.total()), (&left[..], 0));
+    /// assert_eq!(session.planes().depths[0], [0, 2, 2, 2]);
+    /// assert_eq!(session.take_back(), Err(Refusal::NothingToTakeBack));
+    /// # Ok::<(), luphwezane::Refusal>(())
+    /// ```
+    ///
+    /// # Errors
+    /// Refuses [`Plane`](Refusal::Plane) (the reference), [`Table`](Refusal::Table), [`Share`](Refusal::Share),
+    /// [`Gap`](Refusal::Gap) and [`Sample`](Refusal::Sample) (the reference), in this order; the session then stays as it is.
+    pub fn move_seat(&mut self, to: &Settings, reference: &[u16]) -> Result<(), Refusal> {
+        let (settings, pictures, mut planes, journal) = self.lent();
+        lent::move_seat(settings, &Pictures { reference, ..pictures }, &mut planes, journal, to)?;
+        self.reference.copy_from_slice(reference);
+        Ok(())
     }
 
     /// How the total would change if the block of the view's depths were the candidate. The session stays as it is.
@@ -104,7 +141,7 @@ impl Session {
     /// Takes back the newest SET that stands: depths, held planes and total become what they were before it. Answers how the
     /// total changed, which is that SET's answer negated.
     ///
-    /// A SET stands until it is taken back or [`keep`](Session::keep) is called.
+    /// A SET stands until it is taken back, or until [`keep`](Session::keep) or [`move_seat`](Session::move_seat) is called.
     ///
     /// # Errors
     /// Refuses [`NothingToTakeBack`](Refusal::NothingToTakeBack) where no SET stands, and nothing else.
@@ -154,7 +191,7 @@ impl Session {
         &self.settings
     }
 
-    /// The pictures.
+    /// The pictures; the reference is that of the last accepted [`move_seat`](Session::move_seat).
     #[inline]
     pub fn pictures(&self) -> Pictures<'_> {
         Pictures { textures: both(&self.textures), reference: &self.reference }

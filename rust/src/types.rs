@@ -2,12 +2,20 @@
 
 /// The greatest sample of a picture: samples have ten bits, in entries of 16.
 ///
-/// OPEN refuses a texture or reference with a higher entry. The other calls read a higher entry of a texture or reference as
-/// this one, and GET, SET and TAKE BACK read a higher held or combined sample so too; CHECK compares these as they are, so that
-/// a higher one is a difference.
+/// OPEN and MOVE refuse a texture or reference with a higher entry. The other calls read a higher entry of a texture or
+/// reference as this one, and GET, SET and TAKE BACK read a higher held or combined sample so too; CHECK compares these as they
+/// are, so that a higher one is a difference.
 pub const GREATEST_SAMPLE: u16 = 1023;
 
 /// The settings of a session. The layout is that of `luph_settings` in the C header.
+///
+/// A column's place is where its disparity shifts it to. Two neighbours whose places lie at most [`widest_gap`] apart are one
+/// surface, and what lies between them is interpolated. Further apart they are torn: the first, as the view reads the row, is
+/// shown up to [`torn_distance`] past its place, and the rest of the gap is a hole, which the far one fills. The last column of
+/// a row is shown so far too, and what is left of the row is a hole. 8 and 1 are the usual numbers.
+///
+/// [`widest_gap`]: Settings::widest_gap
+/// [`torn_distance`]: Settings::torn_distance
 #[repr(C)]
 #[derive(Clone, Copy, Debug, PartialEq, Eq)]
 pub struct Settings {
@@ -23,7 +31,12 @@ pub struct Settings {
     pub share: u8,
     /// How far front depths may differ for both views to be mixed.
     pub tolerance: u8,
-    /// The sum of squared errors of the combined picture. OPEN, SET and TAKE BACK write it; OPEN ignores what is passed in.
+    /// The widest gap within one surface, in quarter samples, 4 to 64.
+    pub widest_gap: u8,
+    /// How far a column is shown into a hole, in quarter samples, 0 to 3.
+    pub torn_distance: u8,
+    /// The sum of squared errors of the combined picture. OPEN, SET, TAKE BACK and MOVE write it; OPEN and MOVE ignore what is
+    /// passed in.
     pub total: u64,
 }
 
@@ -84,7 +97,7 @@ pub struct Planes<'a> {
 /// The planes of a session, lent for writing.
 #[derive(Debug)]
 pub struct PlanesMut<'a> {
-    /// The depths, larger is nearer. OPEN only reads them.
+    /// The depths, larger is nearer. OPEN and MOVE only read them.
     pub depths: [&'a mut [u8]; 2],
     /// The drawn samples.
     pub samples: [&'a mut [u16]; 2],

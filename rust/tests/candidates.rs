@@ -11,7 +11,7 @@ use random::{Guarded, GuardedPlanes, Random, Tried};
 /// A session of w × h over a texture that no shift leaves as it is; entry d of the tables is d div 16.
 fn session(w: u32, h: u32) -> Session {
     let table = std::array::from_fn(|d| d as u16 / 16);
-    let settings = Settings { w, h, left: table, right: table, share: 20, tolerance: 8, total: 0 };
+    let settings = Settings { w, h, left: table, right: table, share: 20, tolerance: 8, widest_gap: 8, torn_distance: 1, total: 0 };
     let area = w as usize * h as usize;
     let texture: Vec<u16> = (0..area).map(|at| (at * at % 1021) as u16).collect();
     let pictures = Pictures { textures: [&texture, &texture], reference: &texture };
@@ -280,7 +280,7 @@ impl Call {
     }
 }
 
-/// 7, 14 and 15, by the candidate's kind, stand after 1, 2, 3, 4, 6 and 5 and before 8; one value has nothing there.
+/// 7, 14 and 15, by the candidate's kind, stand after 1, 2, 3, 4, 20, 6 and 5 and before 8; one value has nothing there.
 #[test]
 fn the_order_of_refusals() {
     let (first, last, inside) = (Point { column: 0, row: 0 }, Point { column: 3, row: 2 }, Point { column: 1, row: 1 });
@@ -314,6 +314,8 @@ fn the_order_of_refusals() {
         assert_eq!(call.number(candidate), 5, "{candidate:?}");
         call.view = 2;
         assert_eq!(call.number(candidate), 6, "{candidate:?}");
+        call.settings.widest_gap = 65;
+        assert_eq!(call.number(candidate), 20, "{candidate:?}");
         call.settings.share = 65;
         assert_eq!(call.number(candidate), 4, "{candidate:?}");
         call.settings.right[9] = 1024;

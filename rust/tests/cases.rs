@@ -8,14 +8,14 @@ use luphwezane::{render, Block, Candidate, Pictures, Refusal, Report, Session, S
 /// Entry d is d.
 fn settings(w: u32) -> Settings {
     let table = std::array::from_fn(|d| d as u16);
-    Settings { w, h: 1, left: table, right: table, share: 0, tolerance: 255, total: 0 }
+    Settings { w, h: 1, left: table, right: table, share: 0, tolerance: 255, widest_gap: 8, torn_distance: 1, total: 0 }
 }
 
 /// A row, drawn by the library and by the independent renderer.
 fn drawn(view: View, texture: &[u16], depths: &[u8]) -> (Vec<u16>, Vec<u8>) {
     let settings = settings(depths.len() as u32);
     let row = render(&settings, view, texture, depths).expect("RENDER accepts it");
-    let pixels = paper::drawn_row(&settings.left, view as usize, texture, depths).pixels;
+    let pixels = paper::drawn_row(&settings, view as usize, texture, depths).pixels;
     assert_eq!(row.samples, pixels.iter().map(|x| x.sample).collect::<Vec<_>>());
     assert_eq!(row.marks, paper::packed(pixels.iter().map(|x| x.mark)));
     assert_eq!(row.fronts, pixels.iter().map(|x| x.front).collect::<Vec<_>>());
@@ -92,6 +92,16 @@ fn boundary_values() {
     assert_eq!(opened(&Settings { h: 4097, ..settings(1) }), Err(Refusal::Size));
     assert_eq!(opened(&Settings { share: 64, ..settings(4) }), Ok(()));
     assert_eq!(opened(&Settings { share: 65, ..settings(4) }), Err(Refusal::Share));
+    for (widest_gap, torn_distance) in [(4, 0), (4, 3), (64, 0), (64, 3), (8, 1)] {
+        assert_eq!(opened(&Settings { widest_gap, torn_distance, ..settings(4) }), Ok(()));
+    }
+    for widest_gap in [0, 3, 65, 255] {
+        assert_eq!(opened(&Settings { widest_gap, ..settings(4) }), Err(Refusal::Gap));
+    }
+    for torn_distance in [4, 5, 255] {
+        assert_eq!(opened(&Settings { torn_distance, ..settings(4) }), Err(Refusal::Gap));
+    }
+    assert_eq!(opened(&Settings { share: 65, widest_gap: 3, ..settings(4) }), Err(Refusal::Share));
     for at in [0, 255] {
         let with = |entry: u16| std::array::from_fn(|d| if d == at { entry } else { 0 });
         assert_eq!(opened(&Settings { left: with(1023), right: with(1023), ..settings(4) }), Ok(()));
@@ -117,7 +127,7 @@ fn boundary_values_of_samples() {
     }
 }
 
-/// RENDER has the same boundary for w and the tables, and none for h, share and samples.
+/// RENDER has the same boundary for w, the tables and both numbers of gaps, and none for h, share and samples.
 #[test]
 fn boundary_values_of_render() {
     let drawn = |settings: Settings| {
@@ -129,6 +139,10 @@ fn boundary_values_of_render() {
     assert_eq!(drawn(settings(4097)), Err(Refusal::Size));
     assert_eq!(drawn(Settings { h: 0, share: 65, ..settings(9) }), Ok(9));
     assert_eq!(drawn(Settings { left: [1024; 256], ..settings(9) }), Err(Refusal::Table));
+    assert_eq!(drawn(Settings { widest_gap: 64, torn_distance: 3, ..settings(9) }), Ok(9));
+    assert_eq!(drawn(Settings { widest_gap: 65, ..settings(9) }), Err(Refusal::Gap));
+    assert_eq!(drawn(Settings { torn_distance: 4, ..settings(9) }), Err(Refusal::Gap));
+    assert_eq!(drawn(Settings { left: [1024; 256], widest_gap: 3, ..settings(9) }), Err(Refusal::Table));
     assert_eq!(render(&settings(9), View::Left, &[0; 9], &[0; 8]), Err(Refusal::Plane));
     assert_eq!(render(&settings(u32::MAX), View::Left, &[], &[]), Err(Refusal::Size));
     let read = render(&settings(4), View::Left, &[0, 1024, 65535, 1023], &[0; 4]).expect("RENDER accepts it");

@@ -1,4 +1,4 @@
-//! The demonstration program: its own scene, the same from files, and what it says of files that it cannot take.
+//! The demonstration program: its own scene, the same from files, the seat that moves, and what it says of files that it cannot take.
 
 use std::path::{Path, PathBuf};
 use std::process::{Command, Output};
@@ -33,6 +33,24 @@ fn chosen(numbers: &[String]) -> [u64; 5] {
     })
 }
 
+/// The lines of the seats, without their numbers.
+fn seats(numbers: &[String]) -> Vec<Vec<&str>> {
+    let lines = numbers.iter().skip_while(|line| !line.starts_with("seat ")).skip(1);
+    lines.take_while(|line| !line.is_empty()).map(|line| line.split_whitespace().collect()).collect()
+}
+
+/// The total that a line of a table ends with, before its PSNR.
+fn total<'a>(cells: &[&'a str]) -> &'a str {
+    cells[cells.len() - 3]
+}
+
+/// The middle of what is bright in some rows, in hundredths of a column: there the pole stands before the wall.
+fn middle_of_the_pole(samples: &[u16]) -> usize {
+    let bright = |y: usize| (200..320).filter(move |x| samples[y * 320 + x] > 700);
+    let columns: Vec<usize> = (30..80).flat_map(bright).collect();
+    100 * columns.iter().sum::<usize>() / columns.len()
+}
+
 /// The arguments for a run from files of a folder, with pictures written to another.
 fn run_again<'a>(files: &'a [PathBuf; 5], out: &'a Path) -> Vec<&'a str> {
     ["--out", text(out)].into_iter().chain(files.iter().map(|file| text(file))).collect()
@@ -61,8 +79,19 @@ fn made_scene_and_the_same_from_files() {
     assert!(chosen(&first).iter().all(|&units| units > 0), "the search chooses every kind and backs out: {:?}", chosen(&first));
     let files = ["left", "right", "reference", "depth-left-before", "depth-right-before"];
     let files = files.map(|name| made.join(format!("{name}.pgm")));
-    assert_eq!(numbers(&demo(&run_again(&files, &again))), first);
+    let second = numbers(&demo(&run_again(&files, &again)));
+    assert_eq!(first.len(), second.len());
+    for (one, other) in first.iter().zip(&second) {
+        // What is seen from these two seats no file has.
+        let known = !one.starts_with("1 ") && !one.starts_with("3 ");
+        assert!(if known { one == other } else { other.trim_end().ends_with("not known") }, "{one}\n{other}");
+    }
     for (name, largest) in [
+        ("seat-0", 1023),
+        ("seat-1", 1023),
+        ("seat-2", 1023),
+        ("seat-3", 1023),
+        ("seat-4", 1023),
         ("combined-before", 1023),
         ("combined-after", 1023),
         ("errors-before", 1023),
@@ -78,6 +107,50 @@ fn made_scene_and_the_same_from_files() {
     }
     let (_, samples) = picture(&made.join("left.pgm"), 320, 192);
     assert!((0..4).all(|bits| samples.iter().any(|sample| sample % 4 == bits)), "the scene has ten bits");
+}
+
+/// In the middle the seat shows what the search ended with, at a camera nearly that camera's picture; and from seat to seat a near
+/// thing goes to the left, as far every time.
+#[test]
+fn the_seat_moves() {
+    let out = folder("seats");
+    let numbers = numbers(&demo(&["--out", text(&out)]));
+    let (seats, last) = (seats(&numbers), numbers.iter().rfind(|line| line.contains(", round ")).expect("it searches"));
+    assert_eq!(seats.iter().map(|cells| cells[0]).collect::<Vec<_>>(), ["0,", "1", "2,", "3", "4,"]);
+    assert_eq!(total(&seats[2]), total(&last.split_whitespace().collect::<Vec<_>>()));
+    let picture = |name: &str| picture(&out.join(format!("{name}.pgm")), 320, 192).1;
+    assert_eq!(picture("seat-2"), picture("combined-after"));
+    for (seat, camera) in [("seat-0", "left"), ("seat-4", "right")] {
+        let same = picture(seat).iter().zip(picture(camera)).filter(|(shown, seen)| **shown == *seen).count();
+        assert!(same > 320 * 192 * 9 / 10, "{seat} and {camera} have {same} samples in common");
+    }
+    let places: Vec<usize> = (0..5).map(|seat| middle_of_the_pole(&picture(&format!("seat-{seat}")))).collect();
+    for step in places.windows(2) {
+        assert!((850..1250).contains(&(step[0] - step[1])), "the pole goes by about 10 1/2 columns: {places:?}");
+    }
+}
+
+/// Where the cameras are too far apart, MOVE refuses a seat and the others are shown.
+#[test]
+fn seats_that_are_refused() {
+    let (folder, (w, h)) = (folder("far"), (24, 8));
+    let file = |name: &str, sample: u8| {
+        let path = folder.join(name);
+        std::fs::write(&path, format!("P2\n{w} {h}\n255\n{}", format!("{sample}\n").repeat(w * h))).expect("the file can be written");
+        path
+    };
+    let files =
+        [file("left.pgm", 9), file("right.pgm", 9), file("reference.pgm", 9), file("left-depth.pgm", 3), file("right-depth.pgm", 3)];
+    for (disparity, refused) in [("511", false), ("512", true), ("682", true), ("1023", true)] {
+        let out = folder.join(disparity);
+        let numbers = numbers(&demo(&[&["--disparity", disparity][..], &run_again(&files, &out)].concat()));
+        for (seat, cells) in seats(&numbers).into_iter().enumerate() {
+            let is_refused = refused && seat % 4 == 0 || disparity == "1023" && seat != 2;
+            assert_eq!(cells.contains(&"refused"), is_refused, "{disparity}: {cells:?}");
+            assert_eq!(out.join(format!("seat-{seat}.pgm")).exists(), !is_refused, "{disparity}, seat {seat}");
+        }
+        assert_eq!(numbers.iter().filter(|line| *line == "check   sound").count(), 2);
+    }
 }
 
 /// Pictures of every number of bits up to ten: what is written goes up to the same sample, although the filter passes it.

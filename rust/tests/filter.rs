@@ -5,7 +5,7 @@ mod paper;
 mod random;
 
 use luphwezane::{render, Settings, View};
-use paper::{reversed, LeftRow};
+use paper::{reversed, Kind, LeftRow};
 use random::Random;
 use std::collections::BTreeSet;
 
@@ -21,17 +21,16 @@ struct Reached {
 }
 
 impl Reached {
-    /// Draws a row by the library and by the independent renderer; the table's entry d is d.
+    /// Draws a row by the library and by the independent renderer.
     fn compare(&mut self, view: View, texture: &[u16], depths: &[u8]) -> Vec<u16> {
-        let table = std::array::from_fn(|d| d as u16);
-        let settings = Settings { w: depths.len() as u32, h: 1, left: table, right: table, share: 0, tolerance: 0, total: 0 };
+        let settings = settings(depths.len());
         let (stored_texture, stored_depths) = (stored(view, texture), stored(view, depths));
         let row = render(&settings, view, &stored_texture, &stored_depths).expect("RENDER accepts it");
-        let pixels = paper::drawn_row(&table, view as usize, &stored_texture, &stored_depths).pixels;
+        let pixels = paper::drawn_row(&settings, view as usize, &stored_texture, &stored_depths).pixels;
         assert_eq!(row.samples, pixels.iter().map(|x| x.sample).collect::<Vec<_>>(), "{view:?}, {texture:?}, {depths:?}");
         assert_eq!(row.marks, paper::packed(pixels.iter().map(|x| x.mark)));
         assert_eq!(row.fronts, pixels.iter().map(|x| x.front).collect::<Vec<_>>());
-        self.note(view as usize, &LeftRow { table: &table, texture, depths });
+        self.note(view as usize, &LeftRow::new(&settings, view as usize, texture, depths));
         stored(view, &row.samples)
     }
 
@@ -68,6 +67,13 @@ impl Reached {
     }
 }
 
+/// Settings of a row; the tables' entry d is d.
+fn settings(w: usize) -> Settings {
+    let table = std::array::from_fn(|d| d as u16);
+    let (w, widest_gap, torn_distance) = (w as u32, 8, 1);
+    Settings { w, h: 1, left: table, right: table, share: 0, tolerance: 0, widest_gap, torn_distance, total: 0 }
+}
+
 /// A row as it is stored.
 fn stored<T: Copy>(view: View, row: &[T]) -> Vec<T> {
     if view == View::Left {
@@ -80,7 +86,7 @@ fn stored<T: Copy>(view: View, row: &[T]) -> Vec<T> {
 /// The k of a position that a smooth pair shows.
 fn smooth_step(row: &LeftRow, p: usize) -> Option<usize> {
     let c = row.owner(p);
-    let smooth = c < row.w() - 1 && row.gap(c) <= 8 && row.near_edge(p).is_none();
+    let smooth = c < row.w() - 1 && row.kind(c) == Kind::Smooth && row.near_edge(p).is_none();
     smooth.then(|| paper::step(4 * p as i32 - row.place(c), row.gap(c)))
 }
 
@@ -158,14 +164,15 @@ fn any_depths(random: &mut Random, w: usize) -> Vec<u8> {
 /// Eight-bit rows keep their samples unless the filter cut one down to 255.
 #[test]
 fn eight_bit_rows_keep_their_samples() {
-    let (mut reached, random, table) = (Reached::default(), &mut Random::new(1, 0), std::array::from_fn(|d| d as u16));
+    let (mut reached, random) = (Reached::default(), &mut Random::new(1, 0));
     for view in View::BOTH {
         let (mut kept, mut cut) = (0, 0);
         for _ in 0..2000 {
             let w = random.between(1, 40);
             let (texture, depths) = (random::texture(random, w, 1, 255), any_depths(random, w));
             let samples = reached.compare(view, &texture, &depths);
-            let row = LeftRow { table: &table, texture: &texture, depths: &depths };
+            let settings = settings(w);
+            let row = LeftRow::new(&settings, view as usize, &texture, &depths);
             for (p, sample) in samples.into_iter().map(i32::from).enumerate() {
                 let before = eight_bit_sample(&row, p);
                 assert!(sample == before || before == 255 && sample > 255, "{sample}, which was {before}");

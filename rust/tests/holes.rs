@@ -9,7 +9,8 @@ use luphwezane::{lent, Settings};
 use random::Random;
 
 fn settings(w: usize, h: usize) -> Settings {
-    Settings { w: w as u32, h: h as u32, left: [0; 256], right: [0; 256], share: 0, tolerance: 0, total: 0 }
+    let (w, h) = (w as u32, h as u32);
+    Settings { w, h, left: [0; 256], right: [0; 256], share: 0, tolerance: 0, widest_gap: 8, torn_distance: 1, total: 0 }
 }
 
 /// The widths of every tail behind none to three words, and the widest.

@@ -10,7 +10,7 @@ mod boundary;
 mod paper;
 mod random;
 
-use luphwezane::{lent, Block, Pictures, Planes, Refusal, Report, Settings};
+use luphwezane::{lent, Block, Pictures, Planes, PlanesMut, Refusal, Report, Settings};
 use paper::Drawing;
 use random::{Guarded, GuardedPlanes, Random, Scene, Tried};
 use std::collections::BTreeSet;
@@ -26,6 +26,8 @@ struct Call {
     view: u32,
     block: Block,
     candidate: Tried,
+    /// Where MOVE goes; the reference is the new one then.
+    to: Settings,
 }
 
 impl Call {
@@ -33,8 +35,8 @@ impl Call {
     fn accepted(random: &mut Random) -> Call {
         let widest = if random.once_in(200) { 600 } else { random.pick(&[9, 9, 9, 9, 40, 40, 40, 40, 40, 140]) };
         let (w, h) = (random.between(1, widest), random.between(1, 6));
-        let (share, tolerance) = (random.between(0, 64) as u8, random.byte());
-        let scene = Scene::sized(random, w, h, share, tolerance);
+        let turn = random.next();
+        let scene = Scene::sized(random, w, h, turn);
         let mut settings = scene.settings;
         let (mut planes, mut journal) = (GuardedPlanes::new(random, w, h, scene.depths()), random::journal(random, w * h));
         lent::open(&mut settings, &scene.pictures(), &mut planes.lent(), journal.entries_mut()).expect("OPEN accepts it");
@@ -47,6 +49,7 @@ impl Call {
             view: 0,
             block: Block { column: 0, row: 0, width: 1, height: 1 },
             candidate: random::full(&[0]),
+            to: random::seat(random, &settings),
         };
         call.another(random);
         for _ in 0..random.between(0, 3) {
@@ -93,7 +96,7 @@ impl Call {
     }
 
     fn set(&mut self) -> Result<i64, Refusal> {
-        let Call { settings, textures: [left, right], reference, planes, journal, view, block, candidate } = self;
+        let Call { settings, textures: [left, right], reference, planes, journal, view, block, candidate, .. } = self;
         let pictures = Pictures { textures: [left.entries(), right.entries()], reference: reference.entries() };
         let (planes, journal) = (&mut planes.lent(), journal.entries_mut());
         match candidate.known() {
@@ -119,6 +122,26 @@ impl Call {
         assert_eq!(boundary::take_back(other.0, &other.1, &mut other.2.lent(), other.3.entries_mut()), answer);
         assert!(*self == same, "TAKE BACK ends otherwise");
         answer
+    }
+
+    /// MOVE through the crate, and through the library's symbol: both answer and end alike.
+    fn move_seat(&mut self) -> Result<(), Refusal> {
+        let mut same = self.clone();
+        let answer = self.moved_by(lent::move_seat);
+        assert_eq!(same.moved_by(boundary::move_seat), answer);
+        assert!(*self == same, "MOVE ends otherwise");
+        answer
+    }
+
+    fn moved_by<T>(&mut self, call: impl Fn(&mut Settings, &Pictures, &mut PlanesMut, &mut [u32], &Settings) -> T) -> T {
+        let Call { settings, textures: [left, right], reference, planes, journal, to, .. } = self;
+        let pictures = Pictures { textures: [left.entries(), right.entries()], reference: reference.entries() };
+        call(settings, &pictures, &mut planes.lent(), journal.entries_mut(), to)
+    }
+
+    /// Numbers of MOVE's list.
+    fn move_number(&self) -> u32 {
+        paper::move_number(&self.settings, &self.to, &self.pictures(), &self.planes.shared(), self.journal.entries())
     }
 
     /// Numbers of TAKE BACK's list but 8.
@@ -184,7 +207,7 @@ impl Call {
 
     /// One thing made wrong, or at least different.
     fn spoil(&mut self, random: &mut Random) {
-        match random.between(0, 19) {
+        match random.between(0, 25) {
             0 => self.settings.w = random.pick(&[0, 4097, self.settings.w.wrapping_add(65536), u32::MAX]),
             1 => self.settings.h = random.pick(&[0, 4097, self.settings.h.wrapping_add(65536), u32::MAX]),
             2 => std::mem::swap(&mut self.settings.w, &mut self.settings.h),
@@ -219,6 +242,10 @@ impl Call {
             14..=16 => random::damage_journal(random, &self.settings, self.journal.entries_mut()),
             17 => self.journal = resized(random, &self.journal),
             18 => self.journal = self.journal.resized(self.journal.entries().len().saturating_sub(random.between(1, 20))),
+            19 => self.settings.widest_gap = random.pick(&[0, 3, 4, 8, 64, 65, 128, 255]),
+            20 => self.settings.torn_distance = random.pick(&[0, 3, 4, 255]),
+            21 => random::spoil_seat(random, &mut self.settings),
+            22..=24 => random::spoil_seat(random, &mut self.to),
             _ => self.settings.total = random.next() >> random.between(0, 63),
         }
     }
@@ -385,6 +412,35 @@ fn opened(mut call: Call) {
     }
 }
 
+/// MOVE is decided for all planes, by w and h of the settings and by what is new: it ends as OPEN with the new settings does, or
+/// leaves everything. Nothing can be taken back then.
+fn moved(mut call: Call) {
+    let before = call.clone();
+    let answer = call.move_seat();
+    assert!(call.planes.are_intact() && call.journal.is_intact(), "a guard was written");
+    match before.move_number() {
+        0 => {
+            assert_eq!(answer, Ok(()));
+            let fresh = call.drawing();
+            assert_eq!(call.settings, Settings { total: fresh.total, ..paper::moved(&before.settings, &before.to) });
+            let held = call.planes.shared();
+            assert_eq!(held.depths, before.planes.shared().depths);
+            assert_eq!((held.samples, held.combined), (both(&fresh.samples), &fresh.combined[..]));
+            assert_eq!((held.fronts, held.limits, held.marks), (both(&fresh.fronts), both(&fresh.limits), both(&fresh.marks)));
+            assert!(call.journal.entries() == paper::with_newest(before.journal.entries(), 0), "MOVE writes word 0 alone");
+            let mut opened = Call { settings: paper::moved(&before.settings, &before.to), ..before };
+            assert_eq!(opened.open(), Ok(()));
+            assert!(opened == call, "OPEN ends otherwise");
+            assert_eq!(call.check(), Ok(Report::Sound));
+            assert_eq!(call.take_back(), Err(Refusal::NothingToTakeBack));
+        }
+        number => {
+            assert_eq!(answer, Err(refusal(number)));
+            assert!(call == before, "a refused MOVE wrote");
+        }
+    }
+}
+
 /// RENDER of any texture, with some lengths and numbers wrong.
 fn rendered(random: &mut Random, call: &Call) {
     let w = random.between(1, 40);
@@ -406,8 +462,7 @@ fn rendered(random: &mut Random, call: &Call) {
     match number {
         0 => {
             assert_eq!(answer, Ok(()));
-            let view = call.view as usize;
-            let pixels = paper::drawn_row(paper::table(&settings, view), view, texture, depths).pixels;
+            let pixels = paper::drawn_row(&settings, call.view as usize, texture, depths).pixels;
             assert_eq!(drawn.entries(), pixels.iter().map(|x| x.sample).collect::<Vec<_>>());
             assert_eq!(marks.entries(), paper::packed(pixels.iter().map(|x| x.mark)));
             assert_eq!(fronts.entries(), pixels.iter().map(|x| x.front).collect::<Vec<_>>());
@@ -430,9 +485,31 @@ fn wrong_lengths_and_numbers() {
         questions(&call);
         rendered(random, &call);
         opened(call.clone());
+        moved(call.clone());
         taken_back(call.clone());
         edit(&mut call);
     });
+}
+
+/// What is spoilt of the session or of the seat leads to every number that MOVE has, and to those of the other calls.
+#[test]
+fn spoilt_calls_reach_every_number() {
+    let (random, mut reached) = (&mut Random::new(1, 0), BTreeSet::new());
+    for _ in 0..6000 {
+        let mut call = Call::accepted(random);
+        (0..random.between(1, 3)).for_each(|_| call.spoil(random));
+        reached.insert(("MOVE", call.move_number()));
+        reached.insert(("GET", call.number()));
+        reached.insert(("CHECK", call.common_number()));
+        reached.insert(("TAKE BACK", call.take_back_number()));
+    }
+    let lists: [(&str, &[u32]); 4] = [
+        ("MOVE", &[0, 1, 2, 3, 4, 20, 13, 21]),
+        ("GET", &[0, 1, 2, 3, 4, 20, 6, 5, 7, 14, 15]),
+        ("CHECK", &[0, 1, 2, 3, 4, 20]),
+        ("TAKE BACK", &[0, 1, 2, 3, 4, 20, 13, 12]),
+    ];
+    assert_eq!(reached, lists.into_iter().flat_map(|(call, list)| list.iter().map(move |&number| (call, number))).collect());
 }
 
 /// A call on planes of a session, with a journal that is damaged or too short by some words; one, mostly.
@@ -502,6 +579,7 @@ fn garbage_planes() {
             edit(&mut call);
             call.another(random);
         }
+        moved(call.clone());
         opened(call);
     });
 }
@@ -586,6 +664,7 @@ fn raised_samples() {
         let all = Call { planes: held.planes.clone(), ..pictures.clone() };
         for call in [pictures, held, all] {
             questions(&call);
+            moved(call.clone());
             taken_back(call.clone());
             edit(&mut call.clone());
             edit_raised(call);

@@ -20,6 +20,7 @@ fn refusals_have_numbers_and_words() {
         (Refusal::Journal, 13, "refused (13): the journal has no words or a record that cannot be right"),
         (Refusal::Line, 14, "refused (14): the line does not join two border points of the block that have no side in common"),
         (Refusal::Mask, 15, "refused (15): the mask does not have (width × height + 7) / 8 bytes"),
+        (Refusal::Gap, 20, "refused (20): the widest gap is outside 4 to 64 or the torn distance above 3"),
         (Refusal::Sample, 21, "refused (21): a texture or reference sample is above 1,023"),
     ];
     assert_eq!(Refusal::ALL, refusals.map(|(refusal, ..)| refusal));
@@ -29,7 +30,7 @@ fn refusals_have_numbers_and_words() {
         let error: Box<dyn Error + Send + Sync> = refusal.into();
         assert_eq!(error.to_string(), words);
     }
-    for number in [0, 9, 10, 16, 20, 22, 263, 267, 277, u32::MAX] {
+    for number in [0, 9, 10, 16, 19, 22, 263, 267, 276, 277, u32::MAX] {
         assert_eq!(Refusal::from_number(number), None);
     }
 }
@@ -40,6 +41,7 @@ fn layouts_and_constants() {
     assert_eq!((size_of::<Settings>(), align_of::<Settings>()), (1048, 8));
     assert_eq!([offset_of!(Settings, w), offset_of!(Settings, h), offset_of!(Settings, left), offset_of!(Settings, right)], [0, 4, 8, 520]);
     assert_eq!([offset_of!(Settings, share), offset_of!(Settings, tolerance), offset_of!(Settings, total)], [1032, 1033, 1040]);
+    assert_eq!([offset_of!(Settings, widest_gap), offset_of!(Settings, torn_distance)], [1034, 1035]);
     assert_eq!((size_of::<Block>(), align_of::<Block>()), (16, 4));
     assert_eq!((size_of::<Point>(), align_of::<Point>()), (8, 4));
     assert_eq!([offset_of!(Point, column), offset_of!(Point, row)], [0, 4]);
@@ -48,7 +50,8 @@ fn layouts_and_constants() {
 
 fn session() -> Session {
     let table = std::array::from_fn(|d| d as u16);
-    let settings = Settings { w: 9, h: 2, left: table, right: table, share: 32, tolerance: 0, total: 0 };
+    let (share, tolerance, widest_gap, torn_distance) = (32, 0, 8, 1);
+    let settings = Settings { w: 9, h: 2, left: table, right: table, share, tolerance, widest_gap, torn_distance, total: 0 };
     let texture: Vec<u16> = (0..18).map(|x| 50 * x).collect();
     let pictures = Pictures { textures: [&texture, &texture], reference: &texture };
     Session::open(&settings, &pictures, [&[0; 18], &[0; 18]]).expect("OPEN accepts it")
@@ -107,6 +110,52 @@ fn sets_are_taken_back() {
     assert_eq!(copy.planes().depths, [&kept[0][..], &kept[1][..]]);
     assert_eq!(copy.take_back(), Err(Refusal::NothingToTakeBack));
     assert_eq!((copy.total() as i64, copy.check()), (changes[0] + changes[1], Report::Sound));
+}
+
+/// A session that moves has a copy of the new reference, stays sound and keeps what was set; refused, it stays as it was, with the
+/// reference that it had.
+#[test]
+fn a_session_moves() {
+    let mut session = session();
+    let at = Block { column: 2, row: 0, width: 5, height: 2 };
+    session.set(View::Left, at, Candidate::Flat(6)).expect("SET accepts it");
+    let (before, total) = (session.clone(), session.total());
+    let there = *session.settings();
+    let reference: Vec<u16> = (0..18).map(|x| 40 * x).collect();
+    let high: Vec<u16> = (0..18).map(|x| if x == 17 { GREATEST_SAMPLE + 1 } else { 40 * x }).collect();
+    let mut wrong_tables = there.left;
+    wrong_tables[255] = 1024;
+    let refused = [
+        (there, &reference[1..], Refusal::Plane),
+        (Settings { right: wrong_tables, share: 65, ..there }, &reference[..], Refusal::Table),
+        (Settings { share: 65, widest_gap: 3, ..there }, &high, Refusal::Share),
+        (Settings { widest_gap: 3, ..there }, &high, Refusal::Gap),
+        (Settings { torn_distance: 4, ..there }, &high, Refusal::Gap),
+        (Settings { w: 0, h: 5000, ..there }, &high, Refusal::Sample),
+    ];
+    for (to, reference, refusal) in refused {
+        assert_eq!(session.move_seat(&to, reference), Err(refusal));
+        assert_eq!((session.settings(), session.check()), (&there, Report::Sound));
+        assert_eq!(session.pictures().reference, before.pictures().reference);
+        assert_eq!(session.planes().combined, before.planes().combined);
+    }
+    assert_eq!(session.clone().take_back(), Ok(-(total as i64)), "a refused MOVE empties nothing");
+
+    let to = Settings { w: 1, h: 1, left: [3; 256], right: [0; 256], share: 1, tolerance: 2, widest_gap: 64, torn_distance: 3, total: 5 };
+    assert_eq!(session.move_seat(&to, &reference), Ok(()));
+    assert_eq!(session.settings(), &Settings { w: 9, h: 2, total: session.total(), ..to });
+    assert_eq!((session.pictures().reference, session.check()), (&reference[..], Report::Sound));
+    assert_eq!(session.planes().depths, before.planes().depths);
+    assert_eq!(session.take_back(), Err(Refusal::NothingToTakeBack));
+    let fresh = Session::open(session.settings(), &session.pictures(), session.planes().depths).expect("OPEN accepts it");
+    assert_eq!((fresh.total(), fresh.planes().combined), (session.total(), session.planes().combined));
+
+    // SETs after it can be taken back, and it can move to its own settings.
+    let change = session.set(View::Right, at, Candidate::Flat(90)).expect("SET accepts it");
+    assert_eq!(session.take_back(), Ok(-change));
+    let own = *session.settings();
+    assert_eq!(session.move_seat(&own, &reference), Ok(()));
+    assert_eq!((session.settings(), session.check()), (&own, Report::Sound));
 }
 
 /// A block that is refused makes no room in the journal, however large it says it is; one that fits does.

@@ -1,5 +1,5 @@
-//! The journal (card 3): SET and TAKE BACK with one journal, with those of others, shared, exchanged, too short and damaged. After
-//! every call the reply, every plane, the settings and every word of the journal are compared with the plain record and the
+//! The journal (card 3): SET, TAKE BACK and MOVE with one journal, with those of others, shared, exchanged, too short and damaged.
+//! After every call the reply, every plane, the settings and every word of the journal are compared with the plain record and the
 //! rules of the card.
 //!
 //!     LUPH_SEED=7 LUPH_SESSIONS=100000 cargo test --release --offline --test journal
@@ -44,12 +44,15 @@ impl Journal {
     }
 }
 
-/// A session over planes that the test keeps, and its plain record: two depth planes with their fresh drawing.
+/// A session over planes that the test keeps, and its plain record: two depth planes with their fresh drawing, and the settings and
+/// the reference of OPEN or of the last accepted MOVE.
 #[derive(Clone)]
 struct Held<'a> {
     scene: &'a Scene,
     settings: Settings,
     planes: GuardedPlanes,
+    seat: Settings,
+    reference: Vec<u16>,
     record: [Vec<u8>; 2],
     fresh: Drawing,
 }
@@ -59,21 +62,47 @@ impl<'a> Held<'a> {
         let (w, h) = (scene.settings.w as usize, scene.settings.h as usize);
         let planes = GuardedPlanes::new(random, w, h, scene.depths());
         let fresh = paper::drawing(&scene.settings, &scene.pictures(), scene.depths());
-        let mut held = Held { scene, settings: scene.settings, planes, record: scene.depths.clone(), fresh };
+        let (settings, seat, reference) = (scene.settings, scene.settings, scene.reference.clone());
+        let mut held = Held { scene, settings, planes, seat, reference, record: scene.depths.clone(), fresh };
         assert_eq!(held.reopen(journal), Ok(()));
         held
     }
 
     /// OPEN over the depths as they stand.
     fn reopen(&mut self, journal: &mut Journal) -> Result<(), Refusal> {
-        let number = paper::open_number(&self.settings, &self.scene.pictures(), &self.planes.shared(), &journal.copy);
-        let answer = lent::open(&mut self.settings, &self.scene.pictures(), &mut self.planes.lent(), journal.words.entries_mut());
+        let pictures = self.scene.pictures_with(&self.reference);
+        let number = paper::open_number(&self.settings, &pictures, &self.planes.shared(), &journal.copy);
+        let answer = lent::open(&mut self.settings, &pictures, &mut self.planes.lent(), journal.words.entries_mut());
         assert_eq!(answer, Refusal::from_number(number).map_or(Ok(()), Err));
         if answer.is_ok() {
             journal.copy = paper::with_newest(&journal.copy, 0);
         }
         self.compare(journal);
         answer
+    }
+
+    /// MOVE empties the journal it is passed, whoever wrote it, and draws the record anew.
+    fn move_seat(&mut self, journal: &mut Journal, to: &Settings, reference: Vec<u16>) -> Result<(), Refusal> {
+        let pictures = self.scene.pictures_with(&reference);
+        let number = paper::move_number(&self.settings, to, &pictures, &self.planes.shared(), &journal.copy);
+        let answer = lent::move_seat(&mut self.settings, &pictures, &mut self.planes.lent(), journal.words.entries_mut(), to);
+        assert_eq!(answer, Refusal::from_number(number).map_or(Ok(()), Err));
+        if answer.is_ok() {
+            journal.copy = paper::with_newest(&journal.copy, 0);
+            (self.seat, self.reference) = (paper::moved(&self.seat, to), reference);
+            self.fresh = paper::drawing(&self.seat, &self.scene.pictures_with(&self.reference), self.record());
+        }
+        self.compare(journal);
+        answer
+    }
+
+    /// A MOVE to any seat; one in four is refused.
+    fn any_move(&mut self, random: &mut Random, journal: &mut Journal) -> Result<(), Refusal> {
+        let (mut to, reference) = (random::seat(random, &self.seat), self.scene.any_reference(random));
+        if random.once_in(4) {
+            random::spoil_seat(random, &mut to);
+        }
+        self.move_seat(journal, &to, reference)
     }
 
     fn record(&self) -> [&[u8]; 2] {
@@ -83,7 +112,7 @@ impl<'a> Held<'a> {
     fn compare(&self, journal: &Journal) {
         journal.compare();
         assert!(self.planes.are_intact(), "a guard was written");
-        assert_eq!(self.settings, Settings { total: self.fresh.total, ..self.scene.settings });
+        assert_eq!(self.settings, Settings { total: self.fresh.total, ..self.seat });
         let (planes, fresh) = (self.planes.shared(), &self.fresh);
         assert_eq!(planes.depths, self.record());
         assert_eq!((planes.samples, planes.combined), (both(&fresh.samples), &fresh.combined[..]));
@@ -92,7 +121,7 @@ impl<'a> Held<'a> {
 
     /// The record with these depths; how its total changes.
     fn becomes(&mut self, depths: [Vec<u8>; 2]) -> i64 {
-        let fresh = paper::drawing(&self.settings, &self.scene.pictures(), [&depths[0], &depths[1]]);
+        let fresh = paper::drawing(&self.settings, &self.scene.pictures_with(&self.reference), [&depths[0], &depths[1]]);
         let change = fresh.total as i64 - self.fresh.total as i64;
         (self.record, self.fresh) = (depths, fresh);
         change
@@ -100,18 +129,19 @@ impl<'a> Held<'a> {
 
     fn get(&self, journal: &Journal, view: View, block: Block, candidate: Candidate) {
         let depths = paper::written(&self.settings, self.record(), view as usize, block, candidate);
-        let total = paper::drawing(&self.settings, &self.scene.pictures(), [&depths[0], &depths[1]]).total;
+        let pictures = self.scene.pictures_with(&self.reference);
+        let total = paper::drawing(&self.settings, &pictures, [&depths[0], &depths[1]]).total;
         let change = total as i64 - self.fresh.total as i64;
-        let answer = lent::get(&self.settings, &self.scene.pictures(), &self.planes.shared(), view as u32, block, candidate);
+        let answer = lent::get(&self.settings, &pictures, &self.planes.shared(), view as u32, block, candidate);
         assert_eq!(answer, Ok(change));
         self.compare(journal);
     }
 
     /// SET of a candidate that GET accepts.
     fn set(&mut self, journal: &mut Journal, view: View, block: Block, candidate: Candidate) -> Result<i64, Refusal> {
-        let (pictures, planes) = (self.scene.pictures(), &mut self.planes.lent());
+        let (pictures, planes) = (self.scene.pictures_with(&self.reference), &mut self.planes.lent());
         let answer = lent::set(&mut self.settings, &pictures, planes, journal.words.entries_mut(), view as u32, block, candidate);
-        match Refusal::from_number(paper::journal_number(&self.scene.settings, &journal.copy, block)) {
+        match Refusal::from_number(paper::journal_number(&self.seat, &journal.copy, block)) {
             Some(refusal) => assert_eq!(answer, Err(refusal)),
             None => {
                 journal.copy = paper::saved(&self.settings, &journal.copy, self.record(), view as usize, block);
@@ -125,7 +155,7 @@ impl<'a> Held<'a> {
 
     /// TAKE BACK writes the newest record's depths, whoever wrote it.
     fn take_back(&mut self, journal: &mut Journal) -> Result<i64, Refusal> {
-        let pictures = self.scene.pictures();
+        let pictures = self.scene.pictures_with(&self.reference);
         let number = paper::take_back_number(&self.settings, &pictures, &self.planes.shared(), &journal.copy);
         let answer = lent::take_back(&mut self.settings, &pictures, &mut self.planes.lent(), journal.words.entries_mut());
         match Refusal::from_number(number) {
@@ -170,7 +200,7 @@ fn scene(w: u32, h: u32) -> Scene {
     let texture = |k: usize| (0..area).map(|at| ((at + k) * (at + 3) * 37 % 1021) as u16).collect::<Vec<u16>>();
     let depths = |k: usize| (0..area).map(|at| (at * k % 11) as u8).collect::<Vec<u8>>();
     Scene {
-        settings: Settings { w, h, left: table, right: table, share: 24, tolerance: 6, total: 0 },
+        settings: Settings { w, h, left: table, right: table, share: 24, tolerance: 6, widest_gap: 8, torn_distance: 1, total: 0 },
         textures: [texture(1), texture(2)],
         reference: texture(5),
         depths: [depths(3), depths(4)],
@@ -182,7 +212,8 @@ fn scene(w: u32, h: u32) -> Scene {
 fn words_by_hand() {
     const X: u32 = 7777;
     let table = std::array::from_fn(|d| d as u16);
-    let mut settings = Settings { w: 4, h: 2, left: table, right: table, share: 0, tolerance: 255, total: 0 };
+    let (share, tolerance, widest_gap, torn_distance) = (0, 255, 8, 1);
+    let mut settings = Settings { w: 4, h: 2, left: table, right: table, share, tolerance, widest_gap, torn_distance, total: 0 };
     let texture = [10, 20, 30, 40, 50, 60, 70, 80];
     let pictures = Pictures { textures: [&texture, &texture], reference: &texture };
     let mut guarded = GuardedPlanes::new(&mut Random::new(1, 0), 4, 2, [&[1, 2, 3, 4, 5, 6, 7, 8], &[0, 0, 0, 0, 0, 0, 0, 9]]);
@@ -221,6 +252,16 @@ fn words_by_hand() {
     journal[0] = u32::MAX;
     assert_eq!(lent::open(&mut settings, &pictures, planes, &mut journal), Ok(()));
     assert_eq!((journal[0], journal[1..11].to_vec()), (0, vec![0, 0, 1, 0, 2, 2, 2, 3, 6, 7]));
+
+    // MOVE ignores it too, writes word 0 alone, and the next record stands after word 0.
+    lent::set(&mut settings, &pictures, planes, &mut journal, 0, left, Candidate::Flat(7)).expect("SET accepts it");
+    journal[1] = 1;
+    let to = Settings { share: 64, ..settings };
+    assert_eq!(lent::move_seat(&mut settings, &pictures, planes, &mut journal, &to), Ok(()));
+    assert_eq!(journal, [0, 1, 0, 1, 0, 2, 2, 9, 9, 9, 9, 1, 1, 2, 0, 2, 1, 0, 0]);
+    assert_eq!(lent::take_back(&mut settings, &pictures, planes, &mut journal), Err(Refusal::NothingToTakeBack));
+    lent::set(&mut settings, &pictures, planes, &mut journal, 1, right, Candidate::Flat(1)).expect("SET accepts it");
+    assert_eq!(journal, [1, 0, 1, 3, 1, 1, 1, 9, 9, 9, 9, 1, 1, 2, 0, 2, 1, 0, 0]);
     lent::keep(&mut []);
 }
 
@@ -309,6 +350,8 @@ fn every_length() {
         }
         assert_eq!(held.clone().take_back(&mut cut.clone()).is_ok(), length >= 32, "{length} words");
         assert_eq!(held.clone().reopen(&mut cut.clone()).is_ok(), length > 0, "{length} words");
+        let moved = held.clone().move_seat(&mut cut.clone(), &held.settings, scene.reference.clone());
+        assert_eq!(moved, if length > 0 { Ok(()) } else { Err(Refusal::Journal) }, "{length} words");
     }
 }
 
@@ -375,16 +418,16 @@ fn foreign_journals() {
     assert_eq!(reader.take_back(&mut journal), Err(Refusal::NothingToTakeBack));
 }
 
-/// Two sessions and a few journals, in any order: each SET, TAKE BACK and OPEN is passed any of them, some are damaged or
+/// Two sessions and a few journals, in any order: each SET, TAKE BACK, OPEN and MOVE is passed any of them, some are damaged or
 /// emptied in between, and now and then they are cut.
 #[test]
 fn shared_and_exchanged_journals() {
     random::sessions("shared and exchanged journals", 6000, |random, _| {
         let (w, h) = (random.between(1, 12), random.between(1, 5));
-        let (share, tolerance) = (random.between(0, 64) as u8, random.byte());
-        let one = Scene::sized(random, w, h, share, tolerance);
+        let turns = [random.next(), random.next()];
+        let one = Scene::sized(random, w, h, turns[0]);
         let (w, h) = if random.once_in(2) { (w, h) } else { (random.between(1, 12), random.between(1, 5)) };
-        let other = Scene::sized(random, w, h, share, tolerance);
+        let other = Scene::sized(random, w, h, turns[1]);
         let mut journals: Vec<Journal> = [1, 2, 4].map(|n| Journal::any(random, n * 70)).into();
         let mut sessions = [Held::open(random, &one, &mut journals[0]), Held::open(random, &other, &mut journals[1])];
         if random.once_in(2) {
@@ -392,7 +435,7 @@ fn shared_and_exchanged_journals() {
         }
         for _ in 0..random.between(4, 24) {
             let (held, journal) = (&mut sessions[random.between(0, 1)], &mut journals[random.between(0, 2)]);
-            match random.between(0, 15) {
+            match random.between(0, 17) {
                 0..=5 => _ = held.any_set(random, journal),
                 6..=10 => _ = held.take_back(journal),
                 11 => {
@@ -406,6 +449,7 @@ fn shared_and_exchanged_journals() {
                     random::damage_journal(random, &held.settings, &mut words);
                     *journal = Journal::new(&words);
                 }
+                15 | 16 => _ = held.any_move(random, journal),
                 _ => {
                     let mut words = journal.copy.clone();
                     words.resize(random.between(0, words.len() + 20), 0);
@@ -416,21 +460,22 @@ fn shared_and_exchanged_journals() {
     });
 }
 
-/// Runs whose OPEN, SETs and TAKE BACKs have one journal, long enough or not: GET, SET and TAKE BACK in any order, halted after
-/// every call. The end is the opening depths with the SETs that stand written in turn, TAKE BACK answers their changes negated,
-/// 12 exactly where none stands, and 13 never.
+/// Runs whose OPEN, SETs, TAKE BACKs and MOVEs have one journal, long enough or not: GET, SET, TAKE BACK and MOVE in any order,
+/// halted after every call. The end is the depths of OPEN or of the last accepted MOVE with the SETs that stand written in turn,
+/// TAKE BACK answers their changes negated, 12 exactly where none stands, and 13 never. It is that of a fresh OPEN with the
+/// settings and the reference of that MOVE.
 #[test]
 fn runs_with_one_journal() {
     random::sessions("runs with one journal", 3000, |random, number| {
         let (w, h) = (random.between(1, 20), random.between(1, 5));
-        let scene = Scene::sized(random, w, h, (number % 65) as u8, (number % 256) as u8);
+        let scene = Scene::sized(random, w, h, number);
         let mut journal = random::journal(random, w * h).entries().to_vec();
         journal.truncate(random.pick(&[usize::MAX, usize::MAX, 8, 30, 90]));
         let mut journal = Journal::new(&journal);
         let mut held = Held::open(random, &scene, &mut journal);
-        let mut standing: Vec<(View, Block, Vec<u8>, i64)> = Vec::new();
+        let (mut opening, mut standing) = (scene.depths.clone(), Vec::<(View, Block, Vec<u8>, i64)>::new());
         for _ in 0..random.between(1, 40) {
-            match random.between(0, 9) {
+            match random.between(0, 10) {
                 0 => {
                     let (view, block, tried) = held.any_edit(random);
                     held.get(&journal, view, block, tried.candidate());
@@ -442,17 +487,25 @@ fn runs_with_one_journal() {
                         Err(refusal) => assert_eq!(refusal, Refusal::JournalFull),
                     }
                 }
+                7 => {
+                    if held.any_move(random, &mut journal).is_ok() {
+                        (opening, standing) = (held.record.clone(), Vec::new());
+                    }
+                }
                 _ => {
                     let expected = standing.pop().map_or(Err(Refusal::NothingToTakeBack), |(_, _, _, change)| Ok(-change));
                     assert_eq!(held.take_back(&mut journal), expected);
                 }
             }
-            let mut depths = scene.depths.clone();
+            let mut depths = opening.clone();
             for (view, block, full, _) in &standing {
                 depths = paper::written(&scene.settings, both(&depths), *view as usize, *block, Candidate::Full(full));
             }
             assert!(depths == held.record, "the SETs that stand make other depths");
-            assert_eq!(lent::check(&held.settings, &scene.pictures(), &held.planes.shared()), Ok(Report::Sound));
+            let pictures = scene.pictures_with(&held.reference);
+            assert_eq!(lent::check(&held.settings, &pictures, &held.planes.shared()), Ok(Report::Sound));
+            let open = Session::open(&held.seat, &pictures, both(&depths)).expect("OPEN accepts it");
+            assert_eq!((*open.settings(), open.planes().combined), (held.settings, held.planes.shared().combined));
         }
     });
 }
@@ -463,7 +516,7 @@ fn runs_with_one_journal() {
 fn a_hundred_sets_taken_back() {
     for seed in 0..4 {
         let random = &mut Random::new(seed, 100);
-        let scene = Scene::sized(random, 24, 9, 30, 10);
+        let scene = Scene::sized(random, 24, 9, 30 + 65 * seed);
         let mut journal = Journal::any(random, 1 + 100 * (6 + 24 * 9));
         let mut held = Held::open(random, &scene, &mut journal);
         let mut session = Session::open(&scene.settings, &scene.pictures(), scene.depths()).expect("OPEN accepts it");
@@ -533,6 +586,8 @@ impl Call {
             (2, _) => self.reference.push(0),
             (3, _) => self.settings.left[200] = 1024,
             (4, _) => self.settings.share = 65,
+            (20, "gap") => self.settings.widest_gap = 65,
+            (20, _) => self.settings.torn_distance = 4,
             (5, _) => self.block.column = 4,
             (6, _) => self.view = 2,
             (7, _) => self.candidate = random::full(&[9; 3]),
@@ -602,7 +657,7 @@ fn assert_order(list: &[Fault], number: impl Fn(&Call) -> u32, apart: impl Fn(Fa
     }
 }
 
-const COMMON: [Fault; 4] = [(1, ""), (2, ""), (3, ""), (4, "")];
+const COMMON: [Fault; 6] = [(1, ""), (2, ""), (3, ""), (4, ""), (20, "gap"), (20, "distance")];
 const JOURNAL: [Fault; 6] = [(13, "no words"), (13, "depth"), (13, "view"), (13, "chain"), (13, "end"), (13, "block")];
 
 #[test]

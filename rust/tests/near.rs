@@ -4,7 +4,7 @@
 mod paper;
 
 use luphwezane::{render, Block, Candidate, Pictures, Report, Session, Settings, View};
-use paper::{reversed, Drawing, LeftRow, Pixel};
+use paper::{reversed, Drawing, Kind, LeftRow, Pixel};
 use std::collections::BTreeSet;
 
 const TEXTURE: [u16; 8] = [10, 20, 30, 40, 50, 60, 70, 80];
@@ -17,7 +17,7 @@ fn table() -> [u16; 256] {
 /// Settings of a row whose combined picture is what the view shows, but for its holes.
 fn settings(view: View, w: usize, table: [u16; 256]) -> Settings {
     let share = if view == View::Left { 0 } else { 64 };
-    Settings { w: w as u32, h: 1, left: table, right: table, share, tolerance: 255, total: 0 }
+    Settings { w: w as u32, h: 1, left: table, right: table, share, tolerance: 255, widest_gap: 8, torn_distance: 1, total: 0 }
 }
 
 /// A row as it is stored.
@@ -43,10 +43,10 @@ fn rows(w: usize, values: &[u8]) -> impl Iterator<Item = Vec<u8>> + '_ {
 
 /// Samples, marks and front depths of a row, drawn by the library and by the independent renderer.
 fn drawn(view: View, depths: &[u8]) -> [Vec<u16>; 3] {
-    let (w, table) = (depths.len(), table());
+    let (w, settings) = (depths.len(), settings(view, depths.len(), table()));
     let (texture, depths) = (stored(view, &TEXTURE[..w]), stored(view, depths));
-    let row = render(&settings(view, w, table), view, &texture, &depths).expect("RENDER accepts it");
-    let pixels = paper::drawn_row(&table, view as usize, &texture, &depths).pixels;
+    let row = render(&settings, view, &texture, &depths).expect("RENDER accepts it");
+    let pixels = paper::drawn_row(&settings, view as usize, &texture, &depths).pixels;
     let of = |part: fn(&Pixel) -> u16| pixels.iter().map(part).collect::<Vec<u16>>();
     let (samples, marks, fronts) = (of(|x| x.sample), of(|x| x.mark.into()), of(|x| x.front.into()));
     assert_eq!(row.samples, samples, "{view:?}, {depths:?}");
@@ -78,7 +78,7 @@ impl Reached {
             }
             let m = row.limit(c + 1);
             if let Some(near) = row.near_edge(p) {
-                let smooth = row.gap(c) <= 8;
+                let smooth = row.kind(c) == Kind::Smooth;
                 self.edges.insert((view, w, c, near));
                 self.pairs.insert((view, smooth, !smooth && x - row.place(c) > 1));
                 self.columns.insert((view, (0..w).filter(|&e| row.place(e) == m).count()));
@@ -106,11 +106,12 @@ impl Reached {
 
 #[test]
 fn every_small_row() {
-    let (mut reached, table) = (Reached::default(), table());
+    let mut reached = Reached::default();
     for (view, w) in View::BOTH.into_iter().flat_map(|view| (1..=6).map(move |w| (view, w))) {
+        let settings = settings(view, w, table());
         for depths in rows(w, &[0, 5, 6, 7, 11, 15, 19]) {
             drawn(view, &depths);
-            reached.note(view as usize, &LeftRow { table: &table, texture: &TEXTURE[..w], depths: &depths });
+            reached.note(view as usize, &LeftRow::new(&settings, view as usize, &TEXTURE[..w], &depths));
         }
     }
     reached.assert_all(6);
@@ -207,7 +208,7 @@ fn every_small_edit() {
             let stage = Stage::new(view, table, &TEXTURE[..w]);
             let rows: Vec<Vec<u8>> = rows(w, values).collect();
             let drawings: Vec<Drawing> = rows.iter().map(|depths| stage.drawing(depths)).collect();
-            let row = |n: usize| LeftRow { table: &table, texture: &TEXTURE[..w], depths: &rows[n] };
+            let row = |n: usize| LeftRow::new(&stage.settings, view as usize, &TEXTURE[..w], &rows[n]);
             for (n, depths) in rows.iter().enumerate() {
                 let mut session = stage.open(depths);
                 compare(&session, view, &drawings[n]);
@@ -265,7 +266,7 @@ fn farthest_columns() {
                     let change = stage.drawing(&after).total as i64 - fresh.total as i64;
                     let answer = session.get(view, block(view, w, a, b), Candidate::Full(&after[a..=b]));
                     assert_eq!(answer, Ok(change), "{view:?}, {near}, {next}, {left}, {a} to {b}, {depth}");
-                    let [old, new] = [&depths, &after].map(|depths| LeftRow { table: &table, texture: &texture, depths });
+                    let [old, new] = [&depths, &after].map(|depths| LeftRow::new(&stage.settings, view as usize, &texture, depths));
                     reached.extend(distance(&old, &new, a, b).map(|far| (view as usize, far)));
                 }
             }

@@ -11,13 +11,13 @@ mod random;
 
 use luphwezane::{lent, Block, Candidate, Pictures, Planes, Refusal, Report, Session, Settings, View};
 use paper::Drawing;
-use random::{Guarded, GuardedPlanes, Random, Scene, Tried};
+use random::{Guarded, GuardedPlanes, Move, Random, Scene, Tried};
 use std::collections::BTreeSet;
 
 /// A session under test, and the plain record that it is matched with.
 struct Run {
     scene: Scene,
-    /// What the calls are passed and answer.
+    /// What the calls are passed and answer. The scene has the settings and the reference of the last accepted MOVE.
     settings: Settings,
     planes: GuardedPlanes,
     journal: Guarded<u32>,
@@ -155,6 +155,47 @@ impl Run {
         self.compare();
     }
 
+    /// MOVE by both, and now and then through the library's symbol: everything is drawn anew over the record, the settings are the
+    /// new ones, and no SET stands any more.
+    fn move_seat(&mut self, random: &mut Random) {
+        self.halted();
+        let (to, reference) = (random::seat(random, &self.settings), self.scene.any_reference(random));
+        let pictures = self.scene.pictures_with(&reference);
+        let (planes, journal) = (&mut self.planes.lent(), self.journal.entries_mut());
+        let call = if random.once_in(2) { lent::move_seat } else { boundary::move_seat };
+        assert_eq!(call(&mut self.settings, &pictures, planes, journal, &to), Ok(()));
+        assert_eq!(self.session.move_seat(&to, &reference), Ok(()));
+        (self.scene.settings, self.scene.reference) = (paper::moved(&self.scene.settings, &to), reference);
+        self.copy = paper::with_newest(&self.copy, 0);
+        self.opening = self.record.clone();
+        self.standing.clear();
+        self.fresh = self.drawing(&self.record);
+        assert_eq!(self.session.pictures().reference, self.scene.reference);
+        self.compare();
+        self.halted();
+    }
+
+    /// A MOVE that meets a condition of its list: it is refused and all stays. A `Session` has its own size and journal.
+    fn refused_move(&mut self, random: &mut Random) {
+        let (to, reference) = (random::seat(random, &self.settings), self.scene.any_reference(random));
+        let passed = Move { settings: self.settings, to, reference, journal: self.journal.clone() }.refused(random);
+        let Move { settings, to, reference, journal } = passed.clone();
+        let pictures = self.scene.pictures_with(&reference);
+        let number = paper::move_number(&settings, &to, &pictures, &self.planes.shared(), journal.entries());
+        let refusal = Refusal::from_number(number).expect("MOVE is to be refused");
+        for call in [lent::move_seat, boundary::move_seat] {
+            let Move { mut settings, mut journal, .. } = passed.clone();
+            assert_eq!(call(&mut settings, &pictures, &mut self.planes.lent(), journal.entries_mut(), &to), Err(refusal));
+            assert!(settings == passed.settings && journal == passed.journal, "a refused MOVE wrote");
+        }
+        let own = paper::move_number(&self.settings, &to, &pictures, &self.planes.shared(), &[0]);
+        if let Some(refusal) = Refusal::from_number(own) {
+            assert_eq!(self.session.move_seat(&to, &reference), Err(refusal));
+            assert_eq!(self.session.pictures().reference, self.scene.reference);
+        }
+        self.compare();
+    }
+
     /// TAKE BACK by both: the newest SET that stands is undone and its change comes back negated; 12 where none stands.
     fn take_back(&mut self) {
         let (pictures, planes, journal) = (self.scene.pictures(), &mut self.planes.lent(), self.journal.entries_mut());
@@ -178,7 +219,8 @@ impl Run {
         self.compare_span(view as usize, block, &after.0, &after.1);
     }
 
-    /// A run is judged by the SETs that stand: the depths are those it began with, and these SETs written in turn.
+    /// A run is judged by the SETs that stand: the depths are those it began with, and these SETs written in turn. It equals a
+    /// fresh OPEN with the settings and the reference of the last accepted MOVE.
     fn halted(&self) {
         let mut depths = self.opening.clone();
         for Standing { view, block, depths: full, .. } in &self.standing {
@@ -190,6 +232,9 @@ impl Run {
         let sum: i64 = self.standing.iter().map(|set| set.change).sum();
         assert_eq!(self.drawing(&self.opening).total as i64 + sum, self.settings.total as i64);
         assert_eq!(paper::chain(&self.settings, &self.copy).map(|records| records.len()), Some(self.standing.len()));
+        let open = Session::open(&self.scene.settings, &self.scene.pictures(), self.record()).expect("OPEN accepts it");
+        assert_eq!(*open.settings(), self.settings);
+        self.compare_planes(&open.planes());
     }
 
     /// A SET shows in the spans of the block's rows only, moves limits of columns up to the block's last only, and leaves
@@ -293,7 +338,7 @@ impl Run {
     }
 
     fn call(&mut self, random: &mut Random) {
-        match random.between(0, 14) {
+        match random.between(0, 17) {
             0..=2 => {
                 let (view, block, candidate) = self.any_edit(random);
                 self.get(view, block, &candidate);
@@ -307,6 +352,8 @@ impl Run {
             10 | 11 => self.take_back(),
             12 => (0..random.between(1, 4)).for_each(|_| self.take_back()),
             13 if random.once_in(3) => self.keep(),
+            14 | 15 => self.move_seat(random),
+            16 => self.refused_move(random),
             _ => self.any_refused(random),
         }
     }
@@ -333,7 +380,7 @@ impl Run {
         for view in View::BOTH {
             let texture = &self.scene.textures[view as usize][y * w..(y + 1) * w];
             let depths = &self.record[view as usize][y * w..(y + 1) * w];
-            let drawn = paper::drawn_row(paper::table(&settings, view as usize), view as usize, texture, depths);
+            let drawn = paper::drawn_row(&settings, view as usize, texture, depths);
             let mut samples = Guarded::new(&random.entries(w), 0x5a5a);
             let mut bytes = [paper::mark_bytes(w), w].map(|n| Guarded::new(&random.bytes(n), 0x5a));
             let [marks, fronts] = bytes.each_mut().map(Guarded::entries_mut);
@@ -375,9 +422,7 @@ fn refused_open(random: &mut Random, scene: &Scene) {
     let mut pictures = [&scene.textures[0], &scene.textures[1], &scene.reference].map(Vec::clone);
     pictures[random.between(0, 2)][random.between(0, w * h - 1)] = random.high();
     match random.between(0, 9) {
-        0 => settings.share = random.pick(&[65, 255]),
-        1 => settings.left[random.between(0, 255)] = 1024,
-        2 => settings.right[random.between(0, 255)] = 65535,
+        0..=2 => random::spoil_seat(random, &mut settings),
         3 => drop(pictures[random.between(0, 2)].pop()),
         4 => settings.h = 4097,
         _ => (),
@@ -440,11 +485,36 @@ fn random_candidates_are_of_every_kind() {
     assert_eq!(reached, expected.map(|(number, what)| (number, what.to_string())).into());
 }
 
-/// Shares and tolerances take all their values in turn.
+/// MOVEs that are refused meet every number that MOVE has, and 20 by either of its numbers.
+#[test]
+fn refused_moves_reach_every_number() {
+    let (random, mut reached) = (&mut Random::new(1, 0), BTreeSet::new());
+    for turn in 0..3000 {
+        let (w, h) = (random.between(1, 9), random.between(1, 5));
+        let scene = Scene::sized(random, w, h, turn);
+        let planes = GuardedPlanes::new(random, w, h, scene.depths());
+        let (to, reference, journal) = (random::seat(random, &scene.settings), scene.any_reference(random), Guarded::new(&[0], 7));
+        let number = |passed: &Move| {
+            let pictures = scene.pictures_with(&passed.reference);
+            let Move { settings, to, journal, .. } = passed;
+            paper::move_number(settings, to, &pictures, &planes.shared(), journal.entries())
+        };
+        let passed = Move { settings: scene.settings, to, reference, journal };
+        assert_eq!(number(&passed), 0);
+        let refused = passed.refused(random);
+        reached.insert((number(&refused), (4..=64).contains(&refused.to.widest_gap)));
+    }
+    for refused in [(1, true), (2, true), (3, true), (4, true), (20, true), (20, false), (13, true), (21, true)] {
+        assert!(reached.contains(&refused), "{refused:?}");
+    }
+    assert!(!reached.iter().any(|&(number, _)| number == 0));
+}
+
+/// Shares, tolerances, widest gaps and torn distances take all their values in turn.
 #[test]
 fn random_sessions() {
     random::sessions("sessions", 6000, |random, number| {
-        let scene = Scene::new(random, (number % 65) as u8, (number % 256) as u8);
+        let scene = Scene::new(random, number);
         let calls = if scene.reference.len() < 2000 { random.between(2, 16) } else { 3 };
         refused_open(random, &scene);
         let mut run = Run::open(random, scene);

@@ -1,6 +1,6 @@
 //! The speed program, shortly: the library, the full redraw and the span renderer must answer alike, also in the calls whose
 //! instructions are counted, a candidate of any kind as the full block that it fills, SET whatever its journal holds, TAKE BACK
-//! as the SET of the same depths, and HOLES must count as both ways of counting do.
+//! as the SET of the same depths, MOVE from seat to seat, and HOLES must count as both ways of counting do.
 
 use std::process::{Command, Output};
 
@@ -18,6 +18,8 @@ fn all_three_answer_alike() {
     let said = said(&speed(&["--short"]));
     assert!(
         said.contains("GET / span renderer at 4 × 4, 8 × 8, 64 × 64: ")
+            && said.contains("| OPEN | ")
+            && said.contains("| MOVE | ")
             && said.contains("| GET / GET of the same full block | one value | a line | a mask |\n")
             && said.contains(" | SET with 1,000 records / SET with none | TAKE BACK / SET |\n")
             && said.contains("HOLES / by the word at 1,024 and 1,001 columns: ")
@@ -33,7 +35,7 @@ fn sum(call: &str, program: &str) -> String {
 
 #[test]
 fn counted_calls() {
-    let calls = ["GET at 4 × 4", "GET at 8 × 8", "GET at 64 × 64", "SET at 8 × 8", "OPEN", "RENDER", "GET at 1 × 1"];
+    let calls = ["GET at 4 × 4", "GET at 8 × 8", "GET at 64 × 64", "SET at 8 × 8", "OPEN", "MOVE", "RENDER", "GET at 1 × 1"];
     for call in calls.into_iter().chain(["SET and TAKE BACK at 8 × 8"]) {
         let library = sum(call, "the library");
         assert_eq!(sum(call, "span renderer"), library, "{call}");

@@ -1,4 +1,4 @@
--- Every case of the table holds: one test, which the checker computes.
+-- Every case of both tables holds: one test, which the checker computes.
 use lib.Dec.{T}
 use Rattle.model.specs.Lists.{listFrom, rows, rowOf, sumTo}
 use Rattle.model.specs.Row.{place, least, limit, owner, kindOf, stepOf, taps1, taps2, taps3, repeated, sampleIn, read, weighted, filtered, mixed, smoothPixel, tornPixel, lastPixel, pairPixel, ownedPixel, placedAt, nearEdge, shownPixel, pixelAt, limitAt, leftRow}
@@ -8,11 +8,11 @@ use Rattle.model.specs.Fresh.{freshRow, freshSample, freshCombined, totalOf, fr
 use Rattle.model.specs.Candidates.{cross, inRegion1, filled, onBorder, sideShared, lineOk}
 use Rattle.model.specs.Blocks.{inBlock, writtenPlane, written, blockDepths, changeOf}
 use Rattle.model.specs.Journals.{recordDepths, nextIndex, withNewest, saved}
-use Rattle.model.specs.Refusals.{upTo, blockOk, recordOk, chainOk, journalOk, roomOk, candidateThen, ownThen, savingThen, takingThen}
-use Rattle.run.specs.Run.{plainNumber, plainNext, plainAnswer, plainReply}
+use Rattle.model.specs.Refusals.{upTo, tablesOk, tearOk, blockOk, recordOk, chainOk, journalOk, roomOk, candidateThen, ownThen, savingThen, takingThen}
+use Rattle.run.specs.Run.{moveNumber, plainNumber, plainAccepted, plainNext, plainAnswer, plainChange, plainReply}
 use Rattle.run.specs.Shared.{inTurn, struck, sharedNumber, accepted, sharedNext, sharedChange, sharedReply}
-use Rattle.cases.specs.Cases.{identity, four, settings, opening, images, cases, same, holdsFrom, keptFrom, holds, allHold}
+use Rattle.cases.specs.Cases.{identity, four, settings, opening, images, cases, card11, same, holdsFrom, keptFrom, holds, allHold}
 
-pub cases-hold : T (allHold cases)
-unfolding identity four settings opening images cases same holdsFrom keptFrom holds allHold listFrom rows rowOf sumTo place least limit owner kindOf stepOf taps1 taps2 taps3 repeated sampleIn read weighted filtered mixed smoothPixel tornPixel lastPixel pairPixel ownedPixel placedAt nearEdge shownPixel pixelAt limitAt leftRow seen viewRow shared bothShown bothHoles combinedOf squareError freshRow freshSample freshCombined totalOf freshTotal inBlock writtenPlane written blockDepths changeOf recordDepths nextIndex withNewest saved cross inRegion1 filled onBorder sideShared lineOk upTo blockOk recordOk chainOk journalOk roomOk candidateThen ownThen savingThen takingThen plainNumber plainNext plainAnswer plainReply inTurn struck sharedNumber accepted sharedNext sharedChange sharedReply
-cases-hold = tt
+pub cases-hold : T (allHold cases) × T (allHold card11)
+unfolding identity four settings opening images cases card11 same holdsFrom keptFrom holds allHold listFrom rows rowOf sumTo place least limit owner kindOf stepOf taps1 taps2 taps3 repeated sampleIn read weighted filtered mixed smoothPixel tornPixel lastPixel pairPixel ownedPixel placedAt nearEdge shownPixel pixelAt limitAt leftRow seen viewRow shared bothShown bothHoles combinedOf squareError freshRow freshSample freshCombined totalOf freshTotal inBlock writtenPlane written blockDepths changeOf recordDepths nextIndex withNewest saved cross inRegion1 filled onBorder sideShared lineOk upTo tablesOk tearOk blockOk recordOk chainOk journalOk roomOk candidateThen ownThen savingThen takingThen moveNumber plainNumber plainAccepted plainNext plainAnswer plainChange plainReply inTurn struck sharedNumber accepted sharedNext sharedChange sharedReply
+cases-hold = (tt, tt)

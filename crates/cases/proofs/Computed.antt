@@ -1,11 +1,12 @@
 -- The definitions that the small rows do not reach compute too: packed marks, hole counts, every filter, near edges, filled blocks and lines, and, on
--- the session of document 01 (4 × 1, depths 0), spans, refusals, also those of a journal, and CHECK's report.
+-- the session of document 01 (4 × 1, depths 0), spans, refusals, also those of a journal and of MOVE, and CHECK's report.
 use Prim.Native.Nat.{ℕ}
 use mathlib.Core.Path.{_≡_, refl}
 use mathlib.Core.Bool.{Bool, true, false}
 use mathlib.Core.List.{List, [], _∷_}
 use lib.ListN.{length}
 use lib.IntN.{ℤ, pos}
+use Rattle.model.specs.declared.Tear.{Tear}
 use Rattle.model.specs.declared.Settings.{Settings}
 use Rattle.model.specs.declared.Block.{Block}
 use Rattle.model.specs.declared.Point.{Point}
@@ -19,14 +20,15 @@ use Rattle.model.specs.Row.{Row, line, neg, place, least, limit, owner, kindOf,
 use Rattle.model.specs.Views.{seen, viewRow, entryOf}
 use Rattle.model.specs.Marks.{packByte, packRow, rowHoles, holesIn}
 use Rattle.model.specs.Combined.{shared, bothShown, bothHoles, combinedOf, squareError}
-use Rattle.model.specs.Planes.{Depths, View, Held, pictures, depths, view, held, withTotal}
+use Rattle.model.specs.Planes.{Depths, View, Held, pictures, depths, view, held, strip, withTotal}
 use Rattle.model.specs.Fresh.{freshRow, freshView, freshSample, freshCombined, fresh, totalOf, freshTotal}
 use Rattle.model.specs.Span.{leastEdited, spanLow, spanHigh, inSpan, firstColumn, placesOf, spanHas, limitMoves}
 use Rattle.model.specs.Reports.{sameMark, sameView, sameAt, firstBad, firstDifference, reportOf}
 use Rattle.model.specs.Candidates.{cross, inRegion1, filled, onBorder, sideShared, lineOk}
 use Rattle.model.specs.Journals.{recordDepths, nextIndex}
-use Rattle.model.specs.Refusals.{sideOk, sizeOk, picturesSized, depthsSized, viewSized, heldSized, planesSized, upTo, tablesOk, blockOk, candidateThen, inRange, recordOk, chainOk, journalOk, roomOk, picturesOk, commonThen, ownThen, savingThen, takingThen, openNumber, setNumber, takeBackNumber}
-use Rattle.cases.specs.Cases.{identity, four, settings, opening, images, junk, saves}
+use Rattle.model.specs.Refusals.{sideOk, sizeOk, picturesSized, depthsSized, viewSized, heldSized, planesSized, upTo, tablesOk, tearOk, blockOk, candidateThen, inRange, recordOk, chainOk, journalOk, roomOk, picturesOk, commonThen, ownThen, savingThen, takingThen, openNumber, setNumber, takeBackNumber, stripSized, renderNumber}
+use Rattle.run.specs.Run.{moveNumber}
+use Rattle.cases.specs.Cases.{tear, usual, identity, four, settings, opening, images, junk, saves}
 
 abbrev block : ℕ → ℕ → ℕ → ℕ → Block
 block column row width height = record { column = column; row = row; width = width; height = height }
@@ -52,7 +54,7 @@ holes-two-rows = refl
 -- 255 and stay, and in one with both ends repeated; and a row with higher entries, which are read as 1,023
 
 shown : Bool → List ℕ → ℕ → List ℕ
-shown right texture d = viewRow right (line identity texture (listOf (λ i. d) (length texture))) .samples
+shown right texture d = viewRow right (line usual identity texture (listOf (λ i. d) (length texture))) .samples
 
 edge : List ℕ
 edge = 0 ∷ 0 ∷ 1023 ∷ 1023 ∷ 0 ∷ 0 ∷ []
@@ -88,7 +90,7 @@ six : List ℕ
 six = 10 ∷ 20 ∷ 30 ∷ 40 ∷ 50 ∷ 60 ∷ []
 
 near : List ℕ → Row
-near d = viewRow false (line identity six d)
+near d = viewRow false (line usual identity six d)
 
 edges :
     (near (0 ∷ 0 ∷ 0 ∷ 7 ∷ 11 ∷ 0 ∷ []) .samples ≡ 10 ∷ 50 ∷ 60 ∷ 60 ∷ 60 ∷ 60 ∷ [])
@@ -219,7 +221,7 @@ reports :
 unfolding report reportOf firstDifference firstBad sameAt sameView sameMark fresh freshView freshRow freshSample freshCombined totalOf freshTotal viewRow seen leftRow limitAt pixelAt shownPixel nearEdge placedAt ownedPixel pairPixel lastPixel tornPixel smoothPixel mixed filtered weighted repeated sampleIn read taps1 taps2 taps3 stepOf kindOf owner limit least place listFrom rows rowOf sumTo packRow packByte shared bothShown bothHoles combinedOf squareError settings opening images four identity
 reports = (refl, refl, refl, refl)
 
--- ---- the journal's refusals: 8, 13, 11 in SET, 13, 12, 8 in TAKE BACK, 4, 13, 21 in OPEN. A journal of no words has 13, 11 and 12 at once, word 0 alone 11
+-- ---- the journal's refusals: 8, 13, 11 in SET, 13, 12, 8 in TAKE BACK, 4, 20, 13, 21 in OPEN. A journal of no words has 13, 11 and 12 at once, word 0 alone 11
 -- and 12; a change of -1 leads below 0. OPEN looks at no record.
 
 abbrev lent : Held
@@ -231,10 +233,10 @@ setting j change = setNumber (settings 1) (images 1) (opening 1) lent j 0 (block
 abbrev taking : List ℕ → ℤ → ℕ
 taking j change = takeBackNumber (settings 1) (images 1) (opening 1) lent j change
 
--- share, a sample of the left texture, journal
-abbrev starting : ℕ → ℕ → List ℕ → ℕ
-starting share sample j =
-    openNumber (record { w = 4; h = 1; left = identity; right = identity; share = share; tolerance = 255; total = 0 })
+-- share, the two numbers of card 11, a sample of the left texture, journal
+abbrev starting : ℕ → Tear → ℕ → List ℕ → ℕ
+starting share e sample j =
+    openNumber (record { w = 4; h = 1; left = identity; right = identity; share = share; tolerance = 255; tear = e; total = 0 })
     (pictures (10 ∷ 20 ∷ 30 ∷ sample ∷ []) four four) (opening 1) lent j
 
 journal-order :
@@ -248,9 +250,50 @@ journal-order :
     × (taking (0 ∷ []) (neg 1) ≡ 12)
     × (taking (1 ∷ saves 0 4 []) (neg 1) ≡ 8)
     × (taking (1 ∷ saves 0 4 []) (pos 0) ≡ 0)
-    × (starting 65 1024 [] ≡ 4)
-    × (starting 64 1024 [] ≡ 13)
-    × (starting 64 1024 (9 ∷ []) ≡ 21)
-    × (starting 64 1023 (9 ∷ []) ≡ 0)
-unfolding commonThen sizeOk sideOk planesSized picturesSized depthsSized viewSized heldSized tablesOk upTo picturesOk ownThen blockOk candidateThen inRange savingThen takingThen journalOk chainOk recordOk recordDepths roomOk nextIndex listFrom rows settings opening images four identity
-journal-order = (refl, refl, refl, refl, refl, refl, refl, refl, refl, refl, refl, refl, refl, refl)
+    × (starting 65 (tear 3 1) 1024 [] ≡ 4)
+    × (starting 64 (tear 3 1) 1024 [] ≡ 20)
+    × (starting 64 usual 1024 [] ≡ 13)
+    × (starting 64 usual 1024 (9 ∷ []) ≡ 21)
+    × (starting 64 usual 1023 (9 ∷ []) ≡ 0)
+unfolding commonThen sizeOk sideOk planesSized picturesSized depthsSized viewSized heldSized tablesOk tearOk upTo picturesOk ownThen blockOk candidateThen inRange savingThen takingThen journalOk chainOk recordOk recordDepths roomOk nextIndex listFrom rows settings opening images four identity
+journal-order = (refl, refl, refl, refl, refl, refl, refl, refl, refl, refl, refl, refl, refl, refl, refl)
+
+-- ---- card 11: the widest gap 4 to 64, the distance 0 to 3; 20 right after 4, in RENDER after 3
+
+tears :
+    (tearOk (tear 3 1) ≡ false)
+    × (tearOk (tear 4 0) ≡ true)
+    × (tearOk (tear 64 3) ≡ true)
+    × (tearOk (tear 65 1) ≡ false)
+    × (tearOk (tear 8 4) ≡ false)
+unfolding tearOk
+tears = (refl, refl, refl, refl, refl)
+
+-- MOVE: 2, 3, 4, 20, 13, 21. An entry of the left table, share, numbers, reference, journal.
+abbrev moving : ℕ → ℕ → Tear → List ℕ → List ℕ → ℕ
+moving entry share e reference j =
+    moveNumber (settings 1) (record { w = 0; h = 0; left = entry ∷ []; right = []; share = share; tolerance = 0; tear = e; total = 0 }) reference j
+
+move-order :
+    (moving 1024 65 (tear 3 1) (1024 ∷ []) [] ≡ 2)
+    × (moving 1024 65 (tear 3 1) (10 ∷ 20 ∷ 30 ∷ 1024 ∷ []) [] ≡ 3)
+    × (moving 1023 65 (tear 3 1) (10 ∷ 20 ∷ 30 ∷ 1024 ∷ []) [] ≡ 4)
+    × (moving 1023 64 (tear 3 1) (10 ∷ 20 ∷ 30 ∷ 1024 ∷ []) [] ≡ 20)
+    × (moving 1023 64 usual (10 ∷ 20 ∷ 30 ∷ 1024 ∷ []) [] ≡ 13)
+    × (moving 1023 64 usual (10 ∷ 20 ∷ 30 ∷ 1024 ∷ []) (9 ∷ []) ≡ 21)
+    × (moving 1023 64 usual (10 ∷ 20 ∷ 30 ∷ 1023 ∷ []) (9 ∷ []) ≡ 0)
+unfolding moveNumber tablesOk tearOk upTo settings
+move-order = (refl, refl, refl, refl, refl, refl, refl)
+
+-- RENDER: an entry of the left table, numbers, view
+abbrev rendering : ℕ → Tear → ℕ → ℕ
+rendering entry e v =
+    renderNumber (record { w = 1; h = 0; left = entry ∷ []; right = []; share = 65; tolerance = 0; tear = e; total = 0 }) v (50 ∷ []) (0 ∷ []) (strip (0 ∷ []) (0 ∷ []) (0 ∷ []))
+
+render-order :
+    (rendering 1024 (tear 3 1) 2 ≡ 3)
+    × (rendering 1023 (tear 3 1) 2 ≡ 20)
+    × (rendering 1023 usual 2 ≡ 6)
+    × (rendering 1023 usual 1 ≡ 0)
+unfolding renderNumber stripSized sideOk tablesOk tearOk upTo
+render-order = (refl, refl, refl, refl)

@@ -1,5 +1,5 @@
 -- Document 01, "Small rows and sessions": cases a to m, in one table; d, e, f, k and m as document 02, card 2, has them, and cases of cards 3, 6
--- and 7.
+-- and 7. Another table has those of card 11.
 use Prim.Native.Nat.{ℕ}
 use Prim.Native.String.{String}
 use mathlib.Core.Bool.{Bool, true, false, not, _&&_}
@@ -7,6 +7,7 @@ use mathlib.Core.List.{List, [], _∷_}
 use lib.Dec.{eqb}
 use lib.IntN.{ℤ, pos}
 use lib.Signed.{leZ}
+use Rattle.model.specs.declared.Tear.{Tear}
 use Rattle.model.specs.declared.Settings.{Settings}
 use Rattle.model.specs.declared.Block.{Block}
 use Rattle.model.specs.declared.Split.{Split}
@@ -18,11 +19,10 @@ use Rattle.model.specs.Row.{line, neg, pixel}
 use Rattle.model.specs.Views.{viewRow}
 use Rattle.model.specs.Combined.{combinedOf}
 use Rattle.model.specs.Planes.{Pictures, Depths, pictures, depths}
-use Rattle.model.specs.Fresh.{freshTotal}
 use Rattle.model.specs.Refusals.{journalOk}
-use Rattle.run.specs.Run.{Call, plainNext, plainReply}
-use Rattle.run.specs.Run.Call.{get, set}
-use Rattle.run.specs.Shared.{SharedCall, Plain, opened, inTurn, sharedNext, sharedReply}
+use Rattle.run.specs.Run.{Call, Plain, plain, plainNext, plainReply}
+use Rattle.run.specs.Run.Call.{get, set, move}
+use Rattle.run.specs.Shared.{SharedCall, SharedPlain, opened, standsAs, totalOf, sharedNext, sharedReply}
 
 -- a call of a session and the change that it has to answer
 pub record Step : Type 0 where
@@ -37,13 +37,24 @@ pub record Kept : Type 0 where
   pub total : ℕ
   pub words : List ℕ
 
--- A row of a view with its samples and marks; a combined sample; a session's rows and calls with its last total; a session with one journal; or a journal.
+-- A row of a view, where it tears, with its samples and marks; a combined sample; a session's rows and calls with its last total; a session with one
+-- journal; or a journal.
 pub data Case : Type 0 where
-  row : String → Bool → List ℕ → List ℕ → List ℕ → List ℕ → Case
+  torn : String → Tear → Bool → List ℕ → List ℕ → List ℕ → List ℕ → Case
   mix : String → ℕ → ℕ → ℕ → ℕ → ℕ → ℕ → ℕ → Case
   session : String → ℕ → List Step → ℕ → Case
   journaled : String → List ℕ → List Kept → Case
   journal : String → List ℕ → Bool → Case
+
+-- Document 02, card 11: the widest smooth gap and the nearest torn distance, 8 and 1 in document 01's cases.
+abbrev pub tear : ℕ → ℕ → Tear
+tear gap distance = record { gap = gap; distance = distance }
+
+abbrev pub usual : Tear
+usual = tear 8 1
+
+abbrev row : String → Bool → List ℕ → List ℕ → List ℕ → List ℕ → Case
+row name = torn name usual
 
 -- Table: entry d is d. Texture 10 20 30 40 unless said.
 unfoldable pub identity : List ℕ
@@ -57,13 +68,26 @@ zeros = 0 ∷ 0 ∷ 0 ∷ 0 ∷ []
 
 -- h rows, each with both textures as above, depths 0 and reference 10 20 30 40; share 0, tolerance 255
 unfoldable pub settings : ℕ → Settings
-settings h = record { w = 4; h = h; left = identity; right = identity; share = 0; tolerance = 255; total = 0 }
+settings h = record { w = 4; h = h; left = identity; right = identity; share = 0; tolerance = 255; tear = usual; total = 0 }
 
 unfoldable pub opening : ℕ → Depths
 opening h = depths (rows (λ y. zeros) h) (rows (λ y. zeros) h)
 
 unfoldable pub images : ℕ → Pictures
 images h = pictures (rows (λ y. four) h) (rows (λ y. four) h) (rows (λ y. four) h)
+
+-- the plain record of an OPEN with all this
+abbrev start : ℕ → Plain
+start h = plain (settings h) (images h) (opening h)
+
+-- what MOVE is passed: left table, share, tolerance and the two numbers; w, h and total do not count
+abbrev seat : List ℕ → ℕ → ℕ → Tear → Settings
+seat table share tolerance e =
+    record { w = 0; h = 0; left = table; right = identity; share = share; tolerance = tolerance; tear = e; total = 9 }
+
+-- as at OPEN, but for the numbers
+abbrev tearing : Tear → Settings
+tearing = seat identity 0 255
 
 -- words of a journal that no record has
 abbrev pub junk : ℕ → List ℕ
@@ -86,13 +110,20 @@ GET column depth change = tried (only column) Full (depth ∷ []) change
 abbrev SET : ℕ → ℕ → ℤ → Step
 SET column depth change = wrote (only column) Full (depth ∷ []) change
 
--- the same with one journal: a SET of column 2 in the left view, and TAKE BACK; number, change, total and words
+abbrev MOVE : Settings → List ℕ → Step
+MOVE to reference = record { call = move to reference (0 ∷ []); change = pos 0 }
+
+-- the same with one journal: a SET of column 2 in the left view, TAKE BACK and MOVE; number, change, total and words
 abbrev SETS : ℕ → ℕ → ℤ → ℕ → List ℕ → Kept
 SETS depth number change total words =
     record { call = SharedCall.set 0 (only 2) Full (depth ∷ []); number = number; change = change; total = total; words = words }
 
 abbrev BACK : ℕ → ℤ → ℕ → List ℕ → Kept
 BACK number change total words = record { call = SharedCall.takeBack; number = number; change = change; total = total; words = words }
+
+abbrev MOVES : Tear → List ℕ → ℕ → ℕ → List ℕ → Kept
+MOVES e reference number total words =
+    record { call = SharedCall.move (tearing e) reference; number = number; change = pos 0; total = total; words = words }
 
 -- a record of column 2 in the left view: index of the one before, old depth, the words that follow
 abbrev pub saves : ℕ → ℕ → List ℕ → List ℕ
@@ -112,7 +143,7 @@ falling = Line (record { column = 0; row = 0 }) (record { column = 1; row = 1 })
 abbrev reversed : Split
 reversed = Line (record { column = 1; row = 1 }) (record { column = 0; row = 0 })
 
--- row: view, texture, depths, samples, marks; mix: share, tolerance, left and right depth, left and right sample, combined;
+-- row: view, texture, depths, samples, marks; torn: the numbers before these; mix: share, tolerance, left and right depth, left and right sample, combined;
 -- session: rows, calls with their changes, the total at the end; journaled: the words lent to OPEN, calls with what they answer and leave; journal: words,
 -- and whether 13 leaves them alone
 unfoldable pub cases : List Case
@@ -169,6 +200,43 @@ cases =
     ∷ journal "depth 256 in the record before" (8 ∷ saves 0 256 (saves 1 4 [])) false
     ∷ []
 
+-- the same for card 11
+unfoldable pub card11 : List Case
+card11 =
+    torn "g within the widest gap" (tear 9 1) false four (0 ∷ 0 ∷ 5 ∷ 0 ∷ []) (10 ∷ 30 ∷ 36 ∷ 40 ∷ []) (0 ∷ 0 ∷ 0 ∷ 0 ∷ [])
+    ∷ torn "the widest gap 64" (tear 64 1) false (10 ∷ 20 ∷ []) (62 ∷ 2 ∷ []) (20 ∷ 20 ∷ []) (0 ∷ 1 ∷ [])
+    ∷ torn "a gap of 5 torn" (tear 4 1) false four (0 ∷ 0 ∷ 1 ∷ 0 ∷ []) (10 ∷ 20 ∷ 30 ∷ 40 ∷ []) (0 ∷ 0 ∷ 0 ∷ 0 ∷ [])
+    ∷ torn "distance 0" (tear 4 0) false four (0 ∷ 0 ∷ 1 ∷ 0 ∷ []) (10 ∷ 20 ∷ 40 ∷ 40 ∷ []) (0 ∷ 0 ∷ 1 ∷ 0 ∷ [])
+    ∷ torn "distance 3" (tear 8 3) false four (0 ∷ 0 ∷ 7 ∷ 0 ∷ []) (30 ∷ 30 ∷ 40 ∷ 40 ∷ []) (0 ∷ 0 ∷ 1 ∷ 0 ∷ [])
+    ∷ torn "distance 0 in the last column" (tear 8 0) false (50 ∷ []) (1 ∷ []) (50 ∷ []) (1 ∷ [])
+    ∷ torn "distance 3 in the last column" (tear 8 3) false (50 ∷ []) (3 ∷ []) (50 ∷ []) (0 ∷ [])
+    ∷ torn "t of 4 in the last column" (tear 8 3) false (50 ∷ []) (4 ∷ []) (50 ∷ []) (1 ∷ [])
+    ∷ torn "e with distance 3" (tear 8 3) true four (2 ∷ 2 ∷ 2 ∷ 2 ∷ []) (10 ∷ 14 ∷ 25 ∷ 36 ∷ []) (0 ∷ 0 ∷ 0 ∷ 0 ∷ [])
+    ∷ journaled "refused moves and an accepted one" (junk 16)
+    (SETS 5 0 (pos 100) 100 (1 ∷ saves 0 0 (junk 8))
+    ∷ MOVES (tear 65 1) four 20 100 (1 ∷ saves 0 0 (junk 8))
+    ∷ MOVES (tear 64 1) (10 ∷ []) 2 100 (1 ∷ saves 0 0 (junk 8))
+    ∷ BACK 0 (neg 100) 0 (0 ∷ saves 0 0 (junk 8))
+    ∷ SETS 5 0 (pos 100) 100 (1 ∷ saves 0 0 (junk 8))
+    ∷ MOVES (tear 64 1) four 0 136 (0 ∷ saves 0 0 (junk 8))
+    ∷ BACK 12 (pos 0) 136 (0 ∷ saves 0 0 (junk 8))
+    ∷ SETS 0 0 (neg 136) 0 (1 ∷ saves 0 5 (junk 8))
+    ∷ BACK 0 (pos 136) 136 (0 ∷ saves 0 5 (junk 8))
+    ∷ [])
+    ∷ session "gap and reference" 1
+    (SET 2 5 (pos 100) ∷ MOVE (tearing (tear 64 1)) four ∷ GET 2 0 (neg 136) ∷ MOVE (tearing (tear 64 1)) (10 ∷ 30 ∷ 36 ∷ 40 ∷ []) ∷ GET 2 0 (pos 136) ∷ []) 0
+    ∷ session "table, share and tolerance" 1
+    (SET 2 4 (pos 136)
+    ∷ MOVE (seat (listOf (λ d. 0) 256) 0 255 usual) four
+    ∷ GET 2 0 (pos 0)
+    ∷ MOVE (seat identity 64 255 usual) four
+    ∷ GET 2 0 (pos 0)
+    ∷ MOVE (seat identity 64 0 usual) four
+    ∷ GET 2 0 (neg 136)
+    ∷ [])
+    136
+    ∷ []
+
 -- ---- the test
 
 unfoldable pub same : List ℕ → List ℕ → Bool
@@ -181,20 +249,19 @@ abbrev sameChange : ℤ → ℤ → Bool
 sameChange a b = leZ a b && leZ b a
 
 -- the calls are accepted and answer these changes, and the plain record ends with this total
-unfoldable pub holdsFrom : ℕ → Depths → List Step → ℕ → Bool
-holdsFrom h d [] total = eqb (freshTotal (settings h) (images h) d) total
-holdsFrom h d (k ∷ ks) total =
-    (eqb (plainReply (settings h) (images h) d (k .call) .number) 0 && sameChange (plainReply (settings h) (images h) d (k .call) .change) (k .change))
-    && holdsFrom h (plainNext (settings h) d (k .call)) ks total
+unfoldable pub holdsFrom : Plain → List Step → ℕ → Bool
+holdsFrom r [] total = eqb (totalOf r) total
+holdsFrom r (k ∷ ks) total =
+    (eqb (plainReply r (k .call) .number) 0 && sameChange (plainReply r (k .call) .change) (k .change)) && holdsFrom (plainNext r (k .call)) ks total
 
 -- each call answers its number and change, and leaves its total and words
-unfoldable pub keptFrom : Plain → List Kept → Bool
+unfoldable pub keptFrom : SharedPlain → List Kept → Bool
 keptFrom r [] = true
 keptFrom r (k ∷ ks) =
-    let reply = sharedReply (settings 1) (images 1) (opening 1) r (k .call) in
-    let next = sharedNext (settings 1) (opening 1) r (k .call) in
+    let reply = sharedReply r (k .call) in
+    let next = sharedNext r (k .call) in
     (eqb (reply .number) (k .number) && sameChange (reply .change) (k .change))
-    && (eqb (freshTotal (settings 1) (images 1) (inTurn (settings 1) (opening 1) (next .standing))) (k .total) && same (next .journal) (k .words))
+    && (eqb (totalOf (standsAs next)) (k .total) && same (next .journal) (k .words))
     && keptFrom next ks
 
 abbrev agree : Bool → Bool → Bool
@@ -202,11 +269,11 @@ agree true b = b
 agree false b = not b
 
 unfoldable pub holds : Case → Bool
-holds (row name right texture depths samples marks) =
-    same (viewRow right (line identity texture depths) .samples) samples && same (viewRow right (line identity texture depths) .marks) marks
+holds (torn name e right texture depths samples marks) =
+    same (viewRow right (line e identity texture depths) .samples) samples && same (viewRow right (line e identity texture depths) .marks) marks
 holds (mix name share tolerance ld rd ls rs combined) = eqb (combinedOf share tolerance (pixel ls 0 ld) (pixel rs 0 rd)) combined
-holds (session name h steps total) = holdsFrom h (opening h) steps total
-holds (journaled name words steps) = keptFrom (opened words) steps
+holds (session name h steps total) = holdsFrom (start h) steps total
+holds (journaled name words steps) = keptFrom (opened (start 1) words) steps
 holds (journal name words sound) = agree (journalOk (settings 1) words) sound
 
 unfoldable pub allHold : List Case → Bool

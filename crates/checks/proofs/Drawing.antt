@@ -13,6 +13,7 @@ use native.Mathlib.Omega.{arith}
 use lib.ListN.{length, getD, take, drop}
 use lib.Seq.{getD-take, take-take}
 use lib.IntN.{ℤ, pos}
+use Rattle.model.specs.declared.Tear.{Tear}
 use Rattle.model.specs.declared.Settings.{Settings}
 use Rattle.model.specs.Lists.{rowOf}
 use Rattle.model.specs.Row.{read, sampleIn}
@@ -45,9 +46,9 @@ part-front p w y =
     ap (λ (l : List ℕ). rowOf l w 0) (part-row p w y) ∙ row-front (rowOf p w y) w ∙ take-take w w (drop (y * w) p) (omega arith)
 
 -- drawn from there it is the row drawn from the planes
-pub drawn-part : (right : Bool) (t : List ℕ) (w : ℕ) (texture depths : List ℕ) (y : ℕ) → drawnRow right t w (take (y * w + w - y * w) (drop (y * w) texture)) (take (y * w + w - y * w) (drop (y * w) depths)) 0 ≡ drawnRow right t w texture depths y
+pub drawn-part : (tear : Tear) (right : Bool) (t : List ℕ) (w : ℕ) (texture depths : List ℕ) (y : ℕ) → drawnRow tear right t w (take (y * w + w - y * w) (drop (y * w) texture)) (take (y * w + w - y * w) (drop (y * w) depths)) 0 ≡ drawnRow tear right t w texture depths y
 unfolding drawnRow
-drawn-part right t w texture depths y = rw (part-front texture w y, part-front depths w y)
+drawn-part tear right t w texture depths y = rw (part-front texture w y, part-front depths w y)
 
 -- rows with room for a row of w columns
 pub record RoomFor (w : ℕ) (v : View) : Type 0 where
@@ -70,7 +71,7 @@ part-in w y texture depths v ht hd r =
 -- the rows that are drawn of a view, from planes of a session
 abbrev pub DrawnIs : Settings → Pictures → Depths → Bool → ℕ → View → Type 0
 DrawnIs s p d right y v =
-    viewRows (s .w) v 0 ≡ drawnRow right (tableOf s right) (s .w) (textureOf p right) (depthsOf d right) y
+    viewRows (s .w) v 0 ≡ drawnRow (s .tear) right (tableOf s right) (s .w) (textureOf p right) (depthsOf d right) y
 
 module _ (s : Settings) (p : Pictures) (d : Depths) (sized : DepthsSized s d) (y : ℕ) (ly : y < s .h) (x : ℕ) (lx : x < s .w) where
   module _ (right : Bool) (v : View) (is : DrawnIs s p d right y v) where

@@ -29,11 +29,11 @@ report-number s p d h =
     (λ e. rw e (bool-cases (eqb (s .total) (freshTotal s p d)) (λ q. rw q) (λ q. rw q)))
 
 module _ (s : Settings) (p : Pictures) (d : Depths) (h : Held) where
-  pub refused : (r : Refusal) → numberOf r ≡ commonNumber (s .w) (s .h) (s .left) (s .right) (s .share) (lengthsOf p d h) 0 → (numberOf r ≡ 0 → ⊥) → CheckPost s p d h (Refused r)
+  pub refused : (r : Refusal) → numberOf r ≡ commonNumber (s .w) (s .h) (s .left) (s .right) (s .share) (s .tear) (lengthsOf p d h) 0 → (numberOf r ≡ 0 → ⊥) → CheckPost s p d h (Refused r)
   refused r e ne = record { number = e ∙ common-number s p d h 0; report = λ z. absurd (ne z) }
 
   -- the tests do not look at the total
-  pub accepted : commonNumber (s .w) (s .h) (s .left) (s .right) (s .share) (lengthsOf p d h) 0 ≡ 0 → checkNumber (withTotal s 0) p d h ≡ 0
+  pub accepted : commonNumber (s .w) (s .h) (s .left) (s .right) (s .share) (s .tear) (lengthsOf p d h) 0 ≡ 0 → checkNumber (withTotal s 0) p d h ≡ 0
   accepted e = sym (common-number (withTotal s 0) p d h 0) ∙ e
 
   -- and neither does the search
@@ -53,7 +53,7 @@ module _ (s : Settings) (p : Pictures) (d : Depths) (h : Held) where
       let t : f .sum ≡ freshTotal s p d = a .sum-is g ∙ freshTotal-total s 0 p d in
       rw (q, g, t))
 
-  pub reported : (f : Found) (r : Report) → commonNumber (s .w) (s .h) (s .left) (s .right) (s .share) (lengthsOf p d h) 0 ≡ 0 → Walked (withTotal s 0) p d h f → r ≡ verdictOf (f .place) (f .sum) (s .total) → CheckPost s p d h r
+  pub reported : (f : Found) (r : Report) → commonNumber (s .w) (s .h) (s .left) (s .right) (s .share) (s .tear) (lengthsOf p d h) 0 ≡ 0 → Walked (withTotal s 0) p d h f → r ≡ verdictOf (f .place) (f .sum) (s .total) → CheckPost s p d h r
   reported f r e a q =
       let is : r ≡ reportOf s p d h = q ∙ verdict-is f a in
       record {

@@ -4,6 +4,7 @@ use mathlib.Core.Path.{_≡_}
 use mathlib.Core.Bool.{cond}
 use mathlib.Core.List.{List}
 use lib.Dec.{ltb, eqb}
+use Rattle.model.specs.declared.Tear.{Tear}
 use Rattle.model.specs.declared.Settings.{Settings}
 use Rattle.model.specs.declared.Report.{Report}
 use Rattle.model.specs.declared.Report.the-variants.{Sound, Difference, Total}
@@ -15,9 +16,9 @@ use Rattle.checks.specs.declared.Place.the-variants.{None, At}
 use Rattle.checks.specs.declared.Found.{Found}
 
 -- the settings that a drawing looks at: all but the total
-abbrev pub settingsOf : ℕ → ℕ → List ℕ → List ℕ → ℕ → ℕ → Settings
-settingsOf w h left right share tolerance =
-    record { w = w; h = h; left = left; right = right; share = share; tolerance = tolerance; total = 0 }
+abbrev pub settingsOf : ℕ → ℕ → List ℕ → List ℕ → ℕ → ℕ → Tear → Settings
+settingsOf w h left right share tolerance tear =
+    record { w = w; h = h; left = left; right = right; share = share; tolerance = tolerance; tear = tear; total = 0 }
 
 -- entry k of n entries in rows of w, or none
 unfoldable pub placeOf : ℕ → ℕ → ℕ → Place

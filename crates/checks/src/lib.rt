@@ -1,6 +1,7 @@
 // CHECK compares every held entry with a fresh drawing.
 use model::Report;
 use model::Settings;
+use model::Tear;
 use validate::Lengths;
 use validate::ViewLengths;
 ghost use mathlib.Core.Path.{_≡_};
@@ -44,6 +45,7 @@ fn verdict(found: Found, total: u64) -> Report
 
 // Draws row y of a view to the front of the rows that are lent.
 fn draw_front(
+    tear: Tear,
     right: bool,
     table: &[u16; 256],
     w: usize,
@@ -58,12 +60,13 @@ fn draw_front(
     requires { ⌜ (Table (now table)) × ((0 < w) × (w ≤ 4096)) ⌝ }
     requires { ⌜ (y * w + w ≤ length (now texture)) × (y * w + w ≤ length (now depths)) ⌝ }
     ensures { λ _. ⌜ viewRows w (view (now (samples .exit)) (now (fronts .exit)) (now (limits .exit)) (now (marks .exit))) 0
-        ≡ drawnRow right (now (table .entry)) w (now (texture .entry)) (now (depths .entry)) y ⌝ }
+        ≡ drawnRow tear right (now (table .entry)) w (now (texture .entry)) (now (depths .entry)) y ⌝ }
 {
     let mut flags = [0u8; 4096];
     let from = y * w;
     let to = from + w;
     draw::draw_plane_row(
+        tear,
         right,
         table,
         w,
@@ -86,6 +89,7 @@ fn walk(
     rightTable: &[u16; 256],
     share: u8,
     tolerance: u8,
+    tear: Tear,
     squares: &[u32; 1024],
     left: &[u16],
     right: &[u16],
@@ -103,13 +107,13 @@ fn walk(
     combined: &[u16],
 ) -> Found
     requires { ⌜ Squares (now squares) ⌝ }
-    requires { ⌜ checkNumber (settingsOf w h (now leftTable) (now rightTable) share tolerance)
+    requires { ⌜ checkNumber (settingsOf w h (now leftTable) (now rightTable) share tolerance tear)
         (pictures (now left) (now right) (now reference))
         (depths (now leftDepths) (now rightDepths))
         (held (view (now leftSamples) (now leftFronts) (now leftLimits) (now leftMarks))
         (view (now rightSamples) (now rightFronts) (now rightLimits) (now rightMarks))
         (now combined)) ≡ 0 ⌝ }
-    ensures { λ r. ⌜ Walked (settingsOf w h (now (leftTable .entry)) (now (rightTable .entry)) share tolerance)
+    ensures { λ r. ⌜ Walked (settingsOf w h (now (leftTable .entry)) (now (rightTable .entry)) share tolerance tear)
         (pictures (now (left .entry)) (now (right .entry)) (now (reference .entry)))
         (depths (now (leftDepths .entry)) (now (rightDepths .entry)))
         (held (view (now (leftSamples .entry)) (now (leftFronts .entry)) (now (leftLimits .entry)) (now (leftMarks .entry)))
@@ -129,6 +133,7 @@ fn walk(
     let mut y = 0;
     'rows: while y < h {
         draw_front(
+            tear,
             false,
             leftTable,
             w,
@@ -141,6 +146,7 @@ fn walk(
             &mut marks0,
         );
         draw_front(
+            tear,
             true,
             rightTable,
             w,
@@ -233,6 +239,7 @@ pub fn check(
 {
     let leftTable = settings.left;
     let rightTable = settings.right;
+    let tear = settings.tear;
     let lengths = Lengths {
         left: ViewLengths {
             texture: left.len(),
@@ -259,6 +266,7 @@ pub fn check(
         &leftTable,
         &rightTable,
         settings.share,
+        tear,
         lengths,
     );
     if model::number(first) != 0 {
@@ -272,6 +280,7 @@ pub fn check(
         &rightTable,
         settings.share,
         settings.tolerance,
+        tear,
         &squares,
         left,
         right,

@@ -9,6 +9,7 @@ use mathlib.Core.List.{List}
 use native.Mathlib.Omega.{arith}
 use lib.ListN.{length, getD, take, drop}
 use lib.IntN.{ℤ}
+use Rattle.model.specs.declared.Tear.{Tear}
 use Rattle.model.specs.declared.Pixel.{Pixel}
 use Rattle.model.specs.Lists.{rowOf}
 use Rattle.model.specs.Row.{greatest}
@@ -114,7 +115,7 @@ combined-again right share tolerance w from to old new other c o k lc kept was =
     outer : (i : ℕ) → to ≤ i → from + (to - from) ≤ i
     outer i b = omega arith
 
-module _ (right : Bool) (t : List ℕ) (share tolerance w y x from to : ℕ) (texture candidate s₂ f₂ m₂ d d′ : List ℕ) (v v′ : View) (c c′ : List ℕ) (most : share ≤ 64) (within : y * w + w ≤ length c) (done : RowCommitted right t texture w y x candidate d d′ v v′ from to) (put : c′ ≡ splice c (y * w + from) (combinedPart right share tolerance (heldIn w v′ y) (heldAt w s₂ f₂ m₂ y) from (to - from))) where
+module _ (tear : Tear) (right : Bool) (t : List ℕ) (share tolerance w y x from to : ℕ) (texture candidate s₂ f₂ m₂ d d′ : List ℕ) (v v′ : View) (c c′ : List ℕ) (most : share ≤ 64) (within : y * w + w ≤ length c) (done : RowCommitted tear right t texture w y x candidate d d′ v v′ from to) (put : c′ ≡ splice c (y * w + from) (combinedPart right share tolerance (heldIn w v′ y) (heldAt w s₂ f₂ m₂ y) from (to - from))) where
   fit : from + length (combinedPart right share tolerance (heldIn w v′ y) (heldAt w s₂ f₂ m₂ y) from (to - from)) ≤ w
   fit =
       rw (length-part right share tolerance (heldIn w v′ y) (heldAt w s₂ f₂ m₂ y) from (to - from)) (inside from to w (done .order) (done .within))
@@ -125,7 +126,7 @@ module _ (right : Bool) (t : List ℕ) (share tolerance w y x from to : ℕ) (te
 
   Again : ℕ → Type 0
   Again k =
-      SoundRow right t texture w d v k → readAll (rowOf c w k) ≡ combinedRow right share tolerance (heldIn w v k) (heldAt w s₂ f₂ m₂ k) w → readAll (rowOf c′ w k) ≡ combinedRow right share tolerance (heldIn w v′ k) (heldAt w s₂ f₂ m₂ k) w
+      SoundRow tear right t texture w d v k → readAll (rowOf c w k) ≡ combinedRow right share tolerance (heldIn w v k) (heldAt w s₂ f₂ m₂ k) w → readAll (rowOf c′ w k) ≡ combinedRow right share tolerance (heldIn w v′ k) (heldAt w s₂ f₂ m₂ k) w
 
   here : Again y
   unfolding Again
@@ -148,7 +149,7 @@ module _ (right : Bool) (t : List ℕ) (share tolerance w y x from to : ℕ) (te
   again : (k : ℕ) → Again k
   again k = ⊎-elim (λ e. subst Again (sym e) here) (elsewhere k) (same-row k y)
 
-  pub row-set : RowSet right t share tolerance w y x texture candidate s₂ f₂ m₂ d d′ v v′ c c′
+  pub row-set : RowSet tear right t share tolerance w y x texture candidate s₂ f₂ m₂ d d′ v v′ c c′
   unfolding Again
   row-set =
       record {

@@ -13,6 +13,7 @@ use lib.ListN.{length}
 use lib.Dec.{leb, ltb}
 use lib.IntN.{ℤ}
 use borrow.Author.Tests.{leb-false, ltb-false}
+use Rattle.model.specs.declared.Tear.{Tear}
 use Rattle.model.specs.declared.Block.{Block}
 use Rattle.model.specs.Lists.{rowOf}
 use Rattle.model.specs.Marks.{markBytes}
@@ -41,20 +42,20 @@ other-row {w} {h} {y} k s = (
 )
 
 -- what is set once j rows of the block are: from depths d₀, planes v₀ and combined picture c₀ to d, v and c
-pub record Through (right : Bool) (t : List ℕ) (share tolerance w h : ℕ) (b : Block) (j : ℕ) (texture candidate s₂ f₂ m₂ d₀ d : List ℕ) (v₀ v : View) (c₀ c : List ℕ) : Type 0 where
+pub record Through (tear : Tear) (right : Bool) (t : List ℕ) (share tolerance w h : ℕ) (b : Block) (j : ℕ) (texture candidate s₂ f₂ m₂ d₀ d : List ℕ) (v₀ v : View) (c₀ c : List ℕ) : Type 0 where
   pub row : j ≤ b .height
   pub size : Sized w h texture d v
   pub other : OtherSized w h s₂ f₂ m₂ c
   pub written : (k : ℕ) → b .row ≤ k → k < b .row + j → rowOf d w k ≡ rowOf (writtenPlane w b candidate d₀) w k
   pub unwritten : (k : ℕ) → (k < b .row) ⊎ (b .row + j ≤ k) → rowOf d w k ≡ rowOf d₀ w k
-  pub sound : (k : ℕ) → SoundRow right t texture w d₀ v₀ k → SoundRow right t texture w d v k
-  pub combined : (k : ℕ) → SoundRow right t texture w d₀ v₀ k → readAll (rowOf c₀ w k) ≡ combinedRow right share tolerance (heldIn w v₀ k) (heldAt w s₂ f₂ m₂ k) w → readAll (rowOf c w k) ≡ combinedRow right share tolerance (heldIn w v k) (heldAt w s₂ f₂ m₂ k) w
+  pub sound : (k : ℕ) → SoundRow tear right t texture w d₀ v₀ k → SoundRow tear right t texture w d v k
+  pub combined : (k : ℕ) → SoundRow tear right t texture w d₀ v₀ k → readAll (rowOf c₀ w k) ≡ combinedRow right share tolerance (heldIn w v₀ k) (heldAt w s₂ f₂ m₂ k) w → readAll (rowOf c w k) ≡ combinedRow right share tolerance (heldIn w v k) (heldAt w s₂ f₂ m₂ k) w
   pub others : (k : ℕ) → (k < b .row) ⊎ (b .row + j ≤ k) → viewRows w v k ≡ viewRows w v₀ k
   pub others-combined : (k : ℕ) → (k < b .row) ⊎ (b .row + j ≤ k) → rowOf c w k ≡ rowOf c₀ w k
   pub low : Low (v₀ .samples) → Low (v .samples)
   pub low-combined : Low c₀ → Low c
 
-pub through-none : {right : Bool} {t : List ℕ} {share tolerance w h : ℕ} {b : Block} {texture candidate s₂ f₂ m₂ d : List ℕ} {v : View} {c : List ℕ} → Sized w h texture d v → OtherSized w h s₂ f₂ m₂ c → Through right t share tolerance w h b 0 texture candidate s₂ f₂ m₂ d d v v c c
+pub through-none : {tear : Tear} {right : Bool} {t : List ℕ} {share tolerance w h : ℕ} {b : Block} {texture candidate s₂ f₂ m₂ d : List ℕ} {v : View} {c : List ℕ} → Sized w h texture d v → OtherSized w h s₂ f₂ m₂ c → Through tear right t share tolerance w h b 0 texture candidate s₂ f₂ m₂ d d v v c c
 through-none s o =
     record {
       row = omega arith;
@@ -70,7 +71,7 @@ through-none s o =
       low-combined = λ l. l;
     }
 
-module _ {right : Bool} {t : List ℕ} {share tolerance w h : ℕ} {b : Block} {j : ℕ} {texture candidate s₂ f₂ m₂ d₀ d d′ : List ℕ} {v₀ v v′ : View} {c₀ c c′ : List ℕ} (through : Through right t share tolerance w h b j texture candidate s₂ f₂ m₂ d₀ d v₀ v c₀ c) (block : BlockIn w h b candidate) (start : length d₀ ≡ w * h) (less : j < b .height) (set : RowSet right t share tolerance w (b .row + j) (b .column) texture (rowOf candidate (b .width) j) s₂ f₂ m₂ d d′ v v′ c c′) where
+module _ {tear : Tear} {right : Bool} {t : List ℕ} {share tolerance w h : ℕ} {b : Block} {j : ℕ} {texture candidate s₂ f₂ m₂ d₀ d d′ : List ℕ} {v₀ v v′ : View} {c₀ c c′ : List ℕ} (through : Through tear right t share tolerance w h b j texture candidate s₂ f₂ m₂ d₀ d v₀ v c₀ c) (block : BlockIn w h b candidate) (start : length d₀ ≡ w * h) (less : j < b .height) (set : RowSet tear right t share tolerance w (b .row + j) (b .column) texture (rowOf candidate (b .width) j) s₂ f₂ m₂ d d′ v v′ c c′) where
   row-within : (plane : List ℕ) → length plane ≡ w * h → (b .row + j) * w + w ≤ length plane
   row-within plane e = row-in w h (b .row + j) (length plane) (omega (arith, block .below)) e
 
@@ -101,7 +102,7 @@ module _ {right : Bool} {t : List ℕ} {share tolerance w h : ℕ} {b : Block} {
   other-one k (inl h) e = omega arith
   other-one k (inr h) e = omega arith
 
-  pub through-next : Sized w h texture d′ v′ → OtherSized w h s₂ f₂ m₂ c′ → Through right t share tolerance w h b (j + 1) texture candidate s₂ f₂ m₂ d₀ d′ v₀ v′ c₀ c′
+  pub through-next : Sized w h texture d′ v′ → OtherSized w h s₂ f₂ m₂ c′ → Through tear right t share tolerance w h b (j + 1) texture candidate s₂ f₂ m₂ d₀ d′ v₀ v′ c₀ c′
   through-next s o =
       record {
         row = omega arith;
@@ -128,7 +129,7 @@ rows-beside b k e =
     ⊎-elim (λ h. inl (leb-false (b .row) k h)) (λ h. inr (ltb-false k (b .row + b .height) h))
     (and-false (leb (b .row) k) (ltb k (b .row + b .height)) e)
 
-module _ {right : Bool} {t : List ℕ} {share tolerance w h : ℕ} {b : Block} {texture candidate s₂ f₂ m₂ d₀ d : List ℕ} {v₀ v : View} {c₀ c : List ℕ} (through : Through right t share tolerance w h b (b .height) texture candidate s₂ f₂ m₂ d₀ d v₀ v c₀ c) (start : length d₀ ≡ w * h) where
+module _ {tear : Tear} {right : Bool} {t : List ℕ} {share tolerance w h : ℕ} {b : Block} {texture candidate s₂ f₂ m₂ d₀ d : List ℕ} {v₀ v : View} {c₀ c : List ℕ} (through : Through tear right t share tolerance w h b (b .height) texture candidate s₂ f₂ m₂ d₀ d v₀ v c₀ c) (start : length d₀ ≡ w * h) where
   row-written : (k : ℕ) → k < h → rowOf d w k ≡ rowOf (writtenPlane w b candidate d₀) w k
   row-written k l =
       ⊎-elim
@@ -139,7 +140,7 @@ module _ {right : Bool} {t : List ℕ} {share tolerance w h : ℕ} {b : Block} {
       (lt-or-le k (b .row + b .height)))
       (lt-or-le k (b .row))
 
-  pub through-all : BlockSet right t share tolerance w h b texture candidate s₂ f₂ m₂ d₀ d v₀ v c₀ c
+  pub through-all : BlockSet tear right t share tolerance w h b texture candidate s₂ f₂ m₂ d₀ d v₀ v c₀ c
   through-all =
       record {
         depths = plane-ext 0 w h d (writtenPlane w b candidate d₀) (through .size .depths ∙ mul-comm w h) (length-written w b candidate d₀ ∙ start ∙ mul-comm w h) row-written;

@@ -95,7 +95,7 @@ paired-sides false share tolerance shown = refl
 -- planes that are, as they are read, a view's fresh ones
 module _ (s : Settings) (p : Pictures) (d : Depths) (sized : DepthsSized s d) where
   -- they are sound
-  fresh-sound : (r : Bool) (x : View) → readView x ≡ freshView s p d r → (y : ℕ) → y < s .h → SoundRow r (tableOf s r) (textureOf p r) (s .w) (depthsOf d r) x y
+  fresh-sound : (r : Bool) (x : View) → readView x ≡ freshView s p d r → (y : ℕ) → y < s .h → SoundRow (s .tear) r (tableOf s r) (textureOf p r) (s .w) (depthsOf d r) x y
   unfolding freshRow
   fresh-sound r x e y k =
       record {
@@ -115,7 +115,7 @@ module _ (s : Settings) (p : Pictures) (d : Depths) (sized : DepthsSized s d) wh
       (paired-sides r (s .share) (s .tolerance) (λ q. shownAt (freshRow s p d q y) x)))
 
   -- sound planes are, as they are read, the fresh ones
-  sound-fresh : (r : Bool) (x : View) → Sized (s .w) (s .h) (textureOf p r) (depthsOf d r) x → ((y : ℕ) → y < s .h → SoundRow r (tableOf s r) (textureOf p r) (s .w) (depthsOf d r) x y) → readView x ≡ freshView s p d r
+  sound-fresh : (r : Bool) (x : View) → Sized (s .w) (s .h) (textureOf p r) (depthsOf d r) x → ((y : ℕ) → y < s .h → SoundRow (s .tear) r (tableOf s r) (textureOf p r) (s .w) (depthsOf d r) x y) → readView x ≡ freshView s p d r
   unfolding freshRow
   sound-fresh r x z sound =
       view-same
@@ -150,7 +150,7 @@ low-picture : (h : Held) → readHeld h ≡ h → Low (h .combined)
 unfolding readHeld
 low-picture h e = low-read (h .combined) (ap (λ (k : Held). k .combined) e)
 
-module _ (s : Settings) (p : Pictures) (d₀ : Depths) (h₀ : Held) (v : ℕ) (b : Block) (c : List ℕ) (r : Bool) (side : isRight v ≡ r) (d′ : List ℕ) (v′ : View) (c′ : List ℕ) (set : BlockSet r (tableOf s r) (s .share) (s .tolerance) (s .w) (s .h) b (textureOf p r) c (viewOf h₀ (not r) .samples) (viewOf h₀ (not r) .fronts) (viewOf h₀ (not r) .marks) (depthsOf d₀ r) d′ (viewOf h₀ r) v′ (h₀ .combined) c′) where
+module _ (s : Settings) (p : Pictures) (d₀ : Depths) (h₀ : Held) (v : ℕ) (b : Block) (c : List ℕ) (r : Bool) (side : isRight v ≡ r) (d′ : List ℕ) (v′ : View) (c′ : List ℕ) (set : BlockSet (s .tear) r (tableOf s r) (s .share) (s .tolerance) (s .w) (s .h) b (textureOf p r) c (viewOf h₀ (not r) .samples) (viewOf h₀ (not r) .fronts) (viewOf h₀ (not r) .marks) (depthsOf d₀ r) d′ (viewOf h₀ r) v′ (h₀ .combined) c′) where
   pub set-depths : withDepths r d₀ d′ ≡ written s v b c d₀
   set-depths = depths-by s v b c d₀ d′ r side (set .depths)
 
@@ -170,7 +170,7 @@ module _ (s : Settings) (p : Pictures) (d₀ : Depths) (h₀ : Held) (v : ℕ) (
     was-fresh : (q : Bool) → readView (viewOf h₀ q) ≡ freshView s p d₀ q
     was-fresh q = view-read h₀ q ∙ ap (λ (h : Held). viewOf h q) sound ∙ view-fresh s p d₀ q
 
-    was-sound : (y : ℕ) → y < s .h → SoundRow r (tableOf s r) (textureOf p r) (s .w) (depthsOf d₀ r) (viewOf h₀ r) y
+    was-sound : (y : ℕ) → y < s .h → SoundRow (s .tear) r (tableOf s r) (textureOf p r) (s .w) (depthsOf d₀ r) (viewOf h₀ r) y
     was-sound y k = fresh-sound s p d₀ sized r (viewOf h₀ r) (was-fresh r) y k
 
     own-fresh : readView v′ ≡ freshView s p after r

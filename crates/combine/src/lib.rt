@@ -1,5 +1,6 @@
 // What SET writes, whole: the planes of one view on the block's rows, and the combined picture in each row's span.
 use model::Candidate;
+use model::Tear;
 ghost use mathlib.Core.Path.{_≡_};
 ghost use mathlib.Core.Bool.{true};
 ghost use Prim.Native.Nat.{_+_, _-_, _*_, _≤_, _<_};
@@ -62,6 +63,7 @@ fn combine_row(
 
 // Commits a row of one view, and combines the entries that are drawn anew with the other view.
 fn set_row(
+    tear: Tear,
     right: bool,
     table: &[u16; 256],
     share: u8,
@@ -85,13 +87,14 @@ fn set_row(
     requires { ⌜ RowIn w y (now texture) (now depths) (view (now samples) (now fronts) (now limits) (now marks)) ⌝ }
     requires { ⌜ (ViewIn w y (now samples2) (now fronts2) (now marks2)) × (y * w + w ≤ length (now combined)) ⌝ }
     requires { ⌜ (0 < length (now candidate)) × (column + length (now candidate) ≤ w) ⌝ }
-    ensures { λ _. ⌜ RowSet right (now (table .entry)) share tolerance w y column (now (texture .entry)) (now (candidate .entry)) (now (samples2 .entry)) (now (fronts2 .entry)) (now (marks2 .entry))
+    ensures { λ _. ⌜ RowSet tear right (now (table .entry)) share tolerance w y column (now (texture .entry)) (now (candidate .entry)) (now (samples2 .entry)) (now (fronts2 .entry)) (now (marks2 .entry))
         (now (depths .entry)) (now (depths .exit))
         (view (now (samples .entry)) (now (fronts .entry)) (now (limits .entry)) (now (marks .entry)))
         (view (now (samples .exit)) (now (fronts .exit)) (now (limits .exit)) (now (marks .exit)))
         (now (combined .entry)) (now (combined .exit)) ⌝ }
 {
     let drawn = commit::commit_row(
+        tear,
         right,
         table,
         texture,
@@ -127,6 +130,7 @@ fn set_row(
 
 // Writes the candidate into the block in one view's depths, row by row, and brings that view's planes and the combined picture up to date.
 fn set_rows(
+    tear: Tear,
     right: bool,
     table: &[u16; 256],
     share: u8,
@@ -155,7 +159,7 @@ fn set_rows(
     requires { ⌜ Sized w h (now texture) (now depths) (view (now samples) (now fronts) (now limits) (now marks)) ⌝ }
     requires { ⌜ OtherSized w h (now samples2) (now fronts2) (now marks2) (now combined) ⌝ }
     requires { ⌜ (BlockIn w h (blockOf column row width height) (filled (blockOf column row width height) candidate (now bytes))) × ((candidateThen (blockOf column row width height) candidate (length (now bytes)) 0 ≡ 0) × (length (now room) ≡ roomOf candidate width)) ⌝ }
-    ensures { λ _. ⌜ BlockSet right (now (table .entry)) share tolerance w h (blockOf column row width height) (now (texture .entry)) (filled (blockOf column row width height) candidate (now (bytes .entry))) (now (samples2 .entry)) (now (fronts2 .entry)) (now (marks2 .entry))
+    ensures { λ _. ⌜ BlockSet tear right (now (table .entry)) share tolerance w h (blockOf column row width height) (now (texture .entry)) (filled (blockOf column row width height) candidate (now (bytes .entry))) (now (samples2 .entry)) (now (fronts2 .entry)) (now (marks2 .entry))
         (now (depths .entry)) (now (depths .exit))
         (view (now (samples .entry)) (now (fronts .entry)) (now (limits .entry)) (now (marks .entry)))
         (view (now (samples .exit)) (now (fronts .exit)) (now (limits .exit)) (now (marks .exit)))
@@ -167,6 +171,7 @@ fn set_rows(
         fill::fill_rows(candidate, bytes, width, j, 1, room);
         let chosen = fill::row_of(candidate, bytes, width, j, room);
         set_row(
+            tear,
             right,
             table,
             share,
@@ -192,6 +197,7 @@ fn set_rows(
 
 // Writes the candidate into the block in one view's depths and brings that view's planes and the combined picture up to date.
 pub fn set_block(
+    tear: Tear,
     right: bool,
     table: &[u16; 256],
     share: u8,
@@ -219,7 +225,7 @@ pub fn set_block(
     requires { ⌜ Sized w h (now texture) (now depths) (view (now samples) (now fronts) (now limits) (now marks)) ⌝ }
     requires { ⌜ OtherSized w h (now samples2) (now fronts2) (now marks2) (now combined) ⌝ }
     requires { ⌜ (BlockIn w h (blockOf column row width height) (filled (blockOf column row width height) candidate (now bytes))) × (candidateThen (blockOf column row width height) candidate (length (now bytes)) 0 ≡ 0) ⌝ }
-    ensures { λ _. ⌜ BlockSet right (now (table .entry)) share tolerance w h (blockOf column row width height) (now (texture .entry)) (filled (blockOf column row width height) candidate (now (bytes .entry))) (now (samples2 .entry)) (now (fronts2 .entry)) (now (marks2 .entry))
+    ensures { λ _. ⌜ BlockSet tear right (now (table .entry)) share tolerance w h (blockOf column row width height) (now (texture .entry)) (filled (blockOf column row width height) candidate (now (bytes .entry))) (now (samples2 .entry)) (now (fronts2 .entry)) (now (marks2 .entry))
         (now (depths .entry)) (now (depths .exit))
         (view (now (samples .entry)) (now (fronts .entry)) (now (limits .entry)) (now (marks .entry)))
         (view (now (samples .exit)) (now (fronts .exit)) (now (limits .exit)) (now (marks .exit)))
@@ -229,6 +235,7 @@ pub fn set_block(
     if n <= 256 {
         let mut room = fill::short_room();
         return set_rows(
+            tear,
             right,
             table,
             share,
@@ -256,6 +263,7 @@ pub fn set_block(
     }
     let mut room = fill::long_room();
     set_rows(
+        tear,
         right,
         table,
         share,

@@ -11,6 +11,7 @@ use native.Mathlib.Omega.{arith}
 use lib.ListN.{length, getD, take, drop}
 use lib.Seq.{ext-getD}
 use lib.IntN.{ℤ, pos}
+use Rattle.model.specs.declared.Tear.{Tear}
 use Rattle.model.specs.Lists.{rowOf}
 use Rattle.model.specs.Row.{line}
 use Rattle.model.specs.Marks.{markBytes}
@@ -114,8 +115,8 @@ module _ (r : Bool) (t : List ℕ) (w y x first n low : ℕ) (edge : Edge) (cand
       }
 
 -- a row of marks m, lent and put back as mr; the rows of texture and depths were lent too
-pub redrawn-row : (r : Bool) (w y n low : ℕ) (edge : Edge) (from to : ℕ) (t texture d s f m s′ f′ mr : List ℕ) {tr dr m₀ : List ℕ} {width : ℕ} → tr ≡ rowOf texture w y → dr ≡ rowOf d w y → m₀ ≡ rowOf m (markBytes w) y → width ≡ w → y * markBytes w + markBytes w ≤ length m → length mr ≡ markBytes w → Redrawn r (line t (seen r tr) (seen r dr)) width y n low edge from to s f m₀ s′ f′ mr → RowRedrawn r (line t (seen r (rowOf texture w y)) (seen r (rowOf d w y))) w y n low edge from to s f m s′ f′ (putRow m (markBytes w) y mr)
-redrawn-row r w y n low edge from to t texture d s f m s′ f′ mr et ed em ew fits wide h =
+pub redrawn-row : (tear : Tear) (r : Bool) (w y n low : ℕ) (edge : Edge) (from to : ℕ) (t texture d s f m s′ f′ mr : List ℕ) {tr dr m₀ : List ℕ} {width : ℕ} → tr ≡ rowOf texture w y → dr ≡ rowOf d w y → m₀ ≡ rowOf m (markBytes w) y → width ≡ w → y * markBytes w + markBytes w ≤ length m → length mr ≡ markBytes w → Redrawn r (line tear t (seen r tr) (seen r dr)) width y n low edge from to s f m₀ s′ f′ mr → RowRedrawn r (line tear t (seen r (rowOf texture w y)) (seen r (rowOf d w y))) w y n low edge from to s f m s′ f′ (putRow m (markBytes w) y mr)
+redrawn-row tear r w y n low edge from to t texture d s f m s′ f′ mr et ed em ew fits wide h =
     record {
       drawn = rw (row-put 0 m mr (markBytes w) y fits wide) (rw (et, ed, em, ew) at h);
       others = other-put 0 m mr (markBytes w) y fits wide;

@@ -9,6 +9,7 @@ use mathlib.Core.List.{List}
 use native.Mathlib.Omega.{arith}
 use lib.ListN.{length, getD, set}
 use lib.IntN.{ℤ, pos}
+use Rattle.model.specs.declared.Tear.{Tear}
 use Rattle.model.specs.Lists.{listOf}
 use Rattle.model.specs.Row.{line, place, limit, limitAt, signed}
 use Rattle.model.proofs.Choice.{lt-or-le}
@@ -32,18 +33,18 @@ limit-settled {f} {g} {w} {a} {b} m (suc n) j h e =
     let k : j < w = omega (arith, m .order, m .within) in
     omega (arith, limit-step f w j k, limit-step g w j k, r, m .under j (omega arith))
 
-pub limits-again : (t s d d′ : List ℕ) (a b n high : ℕ) {e e′ : List ℤ} → EditedRow d d′ a b → b + 1 ≡ n → length d ≤ 4096 → high ≡ limit (place t d′) (length d′) n → e ≡ listOf (limitAt (line t s d)) (length d) → length e′ ≡ length e → Relimited t d′ a n high e e′ → e′ ≡ listOf (limitAt (line t s d′)) (length d′)
+pub limits-again : (tear : Tear) (t s d d′ : List ℕ) (a b n high : ℕ) {e e′ : List ℤ} → EditedRow d d′ a b → b + 1 ≡ n → length d ≤ 4096 → high ≡ limit (place t d′) (length d′) n → e ≡ listOf (limitAt (line tear t s d)) (length d) → length e′ ≡ length e → Relimited t d′ a n high e e′ → e′ ≡ listOf (limitAt (line tear t s d′)) (length d′)
 unfolding limitAt
-limits-again t s d d′ a b n high {e} {e′} edit en most eh old le r =
-    list-of (pos 0) (limitAt (line t s d′)) (length d′) e′ (le ∙ ap length old ∙ length-listOf _ (length d) ∙ sym (edit .same))
+limits-again tear t s d d′ a b n high {e} {e′} edit en most eh old le r =
+    list-of (pos 0) (limitAt (line tear t s d′)) (length d′) e′ (le ∙ ap length old ∙ length-listOf _ (length d) ∙ sym (edit .same))
     (λ c k. ⊎-elim
     (λ u. ⊎-elim (λ v. r .written .under c v ∙ held c (rw (edit .same) at k) ∙ ap signed (sym (before c v)))
     (λ v. r .written .inside c v u ∙ ap signed (below c (omega arith))) (lt-or-le c (r .stop)))
-    (λ u. r .written .beyond c u ∙ held c (rw (edit .same) at k) ∙ sym (span-limit t s d d′ a b c edit (omega arith)))
+    (λ u. r .written .beyond c u ∙ held c (rw (edit .same) at k) ∙ sym (span-limit tear t s d d′ a b c edit (omega arith)))
     (lt-or-le c n))
   where
     held : (c : ℕ) → c < length d → getD e c (pos 0) ≡ signed (limit (place t d) (length d) c)
-    held c k = ap (λ (l : List ℤ). getD l c (pos 0)) old ∙ getD-listOf (pos 0) (limitAt (line t s d)) (length d) c k
+    held c k = ap (λ (l : List ℤ). getD l c (pos 0)) old ∙ getD-listOf (pos 0) (limitAt (line tear t s d)) (length d) c k
 
     below : (c : ℕ) → c ≤ n → limitBelow (place t d′) high n c ≡ limit (place t d′) (length d′) c
     below c h = rw eh (below-limit (place t d′) (length d′) n c h (omega (arith, edit .within, edit .same)))

@@ -10,6 +10,7 @@ use native.Mathlib.Omega.{arith}
 use native.Mathlib.Nat.{mul-comm}
 use lib.ListN.{length, getD, take, drop}
 use lib.Seq.{take-length, drop-drop, paste}
+use Rattle.model.specs.declared.Tear.{Tear}
 use Rattle.model.specs.declared.Pixel.{Pixel}
 use Rattle.model.specs.Lists.{rowOf}
 use Rattle.model.specs.Row.{line, sampleIn, leftRow}
@@ -67,7 +68,7 @@ same-row k y =
     ⊎-elim (λ u. inr (λ e. omega arith))
     (λ u. ⊎-elim (λ v. inr (λ e. omega arith)) (λ v. let e : k ≡ y = omega arith in inl e) (lt-or-le y k)) (lt-or-le k y)
 
-module _ (r : Bool) (t texture : List ℕ) (w y x n low : ℕ) (edge : Edge) (from to : ℕ) (candidate d d′ : List ℕ) (v v′ : View) (table : tableOk t ≡ true) (size : RowIn w y texture d v) (most : w ≤ 4096) (some : 0 < length candidate) (fits : x + length candidate ≤ w) (same : length (v′ .limits) ≡ length (v .limits)) (change : Changed r t w y x candidate d d′ (v .limits) (v′ .limits) n low edge) (redraw : RowRedrawn r (line t (seen r (rowOf texture w y)) (seen r (rowOf d′ w y))) w y n low edge from to (v .samples) (v .fronts) (v .marks) (v′ .samples) (v′ .fronts) (v′ .marks)) where
+module _ (tear : Tear) (r : Bool) (t texture : List ℕ) (w y x n low : ℕ) (edge : Edge) (from to : ℕ) (candidate d d′ : List ℕ) (v v′ : View) (table : tableOk t ≡ true) (size : RowIn w y texture d v) (most : w ≤ 4096) (some : 0 < length candidate) (fits : x + length candidate ≤ w) (same : length (v′ .limits) ≡ length (v .limits)) (change : Changed r t w y x candidate d d′ (v .limits) (v′ .limits) n low edge) (redraw : RowRedrawn r (line tear t (seen r (rowOf texture w y)) (seen r (rowOf d′ w y))) w y n low edge from to (v .samples) (v .fronts) (v .marks) (v′ .samples) (v′ .fronts) (v′ .marks)) where
   step : RowStep r t w x n low edge from to candidate (rowOf d w y) (rowOf d′ w y) (rowOf (v .limits) w y) (rowOf (v′ .limits) w y)
   step =
       record {
@@ -86,62 +87,62 @@ module _ (r : Bool) (t texture : List ℕ) (w y x n low : ℕ) (edge : Edge) (fr
         stretched = redraw .drawn .stretched;
       }
 
-  fit : (g : Pixel → ℕ) → from + length (spanShown g r (line t (seen r (rowOf texture w y)) (seen r (rowOf d′ w y))) n low edge) ≤ w
-  fit g = shown-fits step g (rowOf texture w y)
+  fit : (g : Pixel → ℕ) → from + length (spanShown g r (line tear t (seen r (rowOf texture w y)) (seen r (rowOf d′ w y))) n low edge) ≤ w
+  fit g = shown-fits step tear g (rowOf texture w y)
 
   -- the row's planes of samples and fronts
-  samples-row : rowOf (v′ .samples) w y ≡ splice (rowOf (v .samples) w y) from (spanShown (λ q. q .sample) r (line t (seen r (rowOf texture w y)) (seen r (rowOf d′ w y))) n low edge)
+  samples-row : rowOf (v′ .samples) w y ≡ splice (rowOf (v .samples) w y) from (spanShown (λ q. q .sample) r (line tear t (seen r (rowOf texture w y)) (seen r (rowOf d′ w y))) n low edge)
   samples-row =
       ap (λ (l : List ℕ). rowOf l w y) (redraw .drawn .samples)
       ∙ row-splice 0 (v .samples) w y from _ (size .samples) (fit (λ q. q .sample))
 
-  fronts-row : rowOf (v′ .fronts) w y ≡ splice (rowOf (v .fronts) w y) from (spanShown (λ q. q .front) r (line t (seen r (rowOf texture w y)) (seen r (rowOf d′ w y))) n low edge)
+  fronts-row : rowOf (v′ .fronts) w y ≡ splice (rowOf (v .fronts) w y) from (spanShown (λ q. q .front) r (line tear t (seen r (rowOf texture w y)) (seen r (rowOf d′ w y))) n low edge)
   fronts-row =
       ap (λ (l : List ℕ). rowOf l w y) (redraw .drawn .fronts)
       ∙ row-splice 0 (v .fronts) w y from _ (size .fronts) (fit (λ q. q .front))
 
-  module _ (s : SoundRow r t texture w d v y) where
-    marks-wide : length (drawnRow r t texture w d y .marks) ≡ w
-    marks-wide = length-view-marks r (line t (rowOf texture w y) (rowOf d w y)) ∙ step .wide
+  module _ (s : SoundRow tear r t texture w d v y) where
+    marks-wide : length (drawnRow tear r t texture w d y .marks) ≡ w
+    marks-wide = length-view-marks r (line tear t (rowOf texture w y) (rowOf d w y)) ∙ step .wide
 
-    marks-row : rowOf (v′ .marks) (markBytes w) y ≡ packRow (markBytes w) (splice (drawnRow r t texture w d y .marks) from (spanShown (λ q. q .mark) r (line t (seen r (rowOf texture w y)) (seen r (rowOf d′ w y))) n low edge))
+    marks-row : rowOf (v′ .marks) (markBytes w) y ≡ packRow (markBytes w) (splice (drawnRow tear r t texture w d y .marks) from (spanShown (λ q. q .mark) r (line tear t (seen r (rowOf texture w y)) (seen r (rowOf d′ w y))) n low edge))
     marks-row =
         redraw .drawn .marks
         ∙ rw (s .marks)
-        (marks-spliced w from _ (drawnRow r t texture w d y .marks) _ (flags-view r (line t (rowOf texture w y) (rowOf d w y)))
-        (flags-shown r (line t (seen r (rowOf texture w y)) (seen r (rowOf d′ w y))) n edge _ _) marks-wide
-        (length-shown (λ q. q .mark) r (line t (seen r (rowOf texture w y)) (seen r (rowOf d′ w y))) n edge _ _) (fit (λ q. q .mark)))
+        (marks-spliced w from _ (drawnRow tear r t texture w d y .marks) _ (flags-view r (line tear t (rowOf texture w y) (rowOf d w y)))
+        (flags-shown r (line tear t (seen r (rowOf texture w y)) (seen r (rowOf d′ w y))) n edge _ _) marks-wide
+        (length-shown (λ q. q .mark) r (line tear t (seen r (rowOf texture w y)) (seen r (rowOf d′ w y))) n edge _ _) (fit (λ q. q .mark)))
 
-    sound-here : SoundRow r t texture w d′ v′ y
+    sound-here : SoundRow tear r t texture w d′ v′ y
     unfolding viewRow leftRow
     sound-here =
         record {
           samples = ap readAll samples-row ∙ read-put (rowOf (v .samples) w y) from _ (rw (length-row (v .samples) w y (size .samples)) (fit (λ q. q .sample))) (low-shown r _ n edge _ _)
-              ∙ plane-new step (rowOf texture w y) (s .limits) (λ q. q .sample) (readAll (rowOf (v .samples) w y)) (s .samples);
-          fronts = fronts-row ∙ plane-new step (rowOf texture w y) (s .limits) (λ q. q .front) (rowOf (v .fronts) w y) (s .fronts);
-          limits = limits-new step (rowOf texture w y) (s .limits);
-          marks = marks-row ∙ ap (packRow (markBytes w)) (plane-new step (rowOf texture w y) (s .limits) (λ q. q .mark) _ refl);
+              ∙ plane-new step tear (rowOf texture w y) (s .limits) (λ q. q .sample) (readAll (rowOf (v .samples) w y)) (s .samples);
+          fronts = fronts-row ∙ plane-new step tear (rowOf texture w y) (s .limits) (λ q. q .front) (rowOf (v .fronts) w y) (s .fronts);
+          limits = limits-new step tear (rowOf texture w y) (s .limits);
+          marks = marks-row ∙ ap (packRow (markBytes w)) (plane-new step tear (rowOf texture w y) (s .limits) (λ q. q .mark) _ refl);
         }
 
     -- a mark is read from the packed row as it was drawn
-    mark-here : (e : List ℕ) (m : List ℕ) (i : ℕ) → m ≡ packRow (markBytes w) (drawnRow r t texture w e y .marks) → i < w → markAt m i ≡ getD (drawnRow r t texture w e y .marks) i 0
+    mark-here : (e : List ℕ) (m : List ℕ) (i : ℕ) → m ≡ packRow (markBytes w) (drawnRow tear r t texture w e y .marks) → i < w → markAt m i ≡ getD (drawnRow tear r t texture w e y .marks) i 0
     mark-here e m i em h =
         rw em
-        (mark-packRow (markBytes w) (drawnRow r t texture w e y .marks) (flags-view r (line t (rowOf texture w y) (rowOf e w y))) i (omega arith))
+        (mark-packRow (markBytes w) (drawnRow tear r t texture w e y .marks) (flags-view r (line tear t (rowOf texture w y) (rowOf e w y))) i (omega arith))
 
     marks-kept : (i : ℕ) → i < w → (i < from) ⊎ (to ≤ i) → markAt (rowOf (v′ .marks) (markBytes w) y) i ≡ markAt (rowOf (v .marks) (markBytes w) y) i
     unfolding viewRow leftRow
     marks-kept i h out =
         mark-here d′ (rowOf (v′ .marks) (markBytes w) y) i (sound-here .marks) h
-        ∙ ap (λ (q : List ℕ). getD q i 0) (sym (plane-new step (rowOf texture w y) (s .limits) (λ q. q .mark) (drawnRow r t texture w d y .marks) refl))
+        ∙ ap (λ (q : List ℕ). getD q i 0) (sym (plane-new step tear (rowOf texture w y) (s .limits) (λ q. q .mark) (drawnRow tear r t texture w d y .marks) refl))
         ∙ outside _ _ from to _ i (rw marks-wide (fit (λ q. q .mark)))
-        (length-shown (λ q. q .mark) r (line t (seen r (rowOf texture w y)) (seen r (rowOf d′ w y))) n edge _ _) (redraw .drawn .stretched .size) out
+        (length-shown (λ q. q .mark) r (line tear t (seen r (rowOf texture w y)) (seen r (rowOf d′ w y))) n edge _ _) (redraw .drawn .stretched .size) out
         ∙ sym (mark-here d (rowOf (v .marks) (markBytes w) y) i (s .marks) h)
 
     kept-here : (i : ℕ) → i < w → (i < from) ⊎ (to ≤ i) → heldIn w v′ y i ≡ heldIn w v y i
     unfolding heldPixel sampleIn
     kept-here i h out =
-        let l = line t (seen r (rowOf texture w y)) (seen r (rowOf d′ w y)) in
+        let l = line tear t (seen r (rowOf texture w y)) (seen r (rowOf d′ w y)) in
         let es : getD (rowOf (v′ .samples) w y) i 0 ≡ getD (rowOf (v .samples) w y) i 0 =
         ap (λ (q : List ℕ). getD q i 0) samples-row
         ∙ outside _ _ from to _ i (rw (length-row (v .samples) w y (size .samples)) (fit (λ q. q .sample)))
@@ -168,7 +169,7 @@ module _ (r : Bool) (t texture : List ℕ) (w y x n low : ℕ) (edge : Edge) (fr
         let em = redraw .others k ne in
         rw (es, ef, ee, em)
 
-    sound-other : SoundRow r t texture w d v k → SoundRow r t texture w d′ v′ k
+    sound-other : SoundRow tear r t texture w d v k → SoundRow tear r t texture w d′ v′ k
     sound-other s =
         let e = others-kept in
         record {
@@ -178,12 +179,12 @@ module _ (r : Bool) (t texture : List ℕ) (w y x n low : ℕ) (edge : Edge) (fr
           marks = ap (λ (q : View). q .marks) e ∙ rw depths-other (s .marks);
         }
 
-  pub row-commits : RowCommitted r t texture w y x candidate d d′ v v′ from to
+  pub row-commits : RowCommitted tear r t texture w y x candidate d d′ v v′ from to
   row-commits =
       record {
         depths = change .depths;
         sound = λ k s. ⊎-elim
-            (λ e. subst (λ (i : ℕ). SoundRow r t texture w d′ v′ i) (sym e) (sound-here (subst (λ (i : ℕ). SoundRow r t texture w d v i) e s)))
+            (λ e. subst (λ (i : ℕ). SoundRow tear r t texture w d′ v′ i) (sym e) (sound-here (subst (λ (i : ℕ). SoundRow tear r t texture w d v i) e s)))
             (λ ne. sound-other k ne s) (same-row k y);
         others = others-kept;
         order = omega (arith, redraw .drawn .stretched .size);

@@ -10,6 +10,7 @@ use mathlib.Core.List.{List}
 use native.Mathlib.Omega.{arith}
 use lib.ListN.{length, getD}
 use lib.IntN.{ℤ, pos}
+use Rattle.model.specs.declared.Tear.{Tear}
 use Rattle.model.specs.declared.Pixel.{Pixel}
 use Rattle.model.specs.Lists.{listOf}
 use Rattle.model.specs.Row.{line, place, limit, limitAt, quarter, pixelAt, leftRow}
@@ -69,12 +70,12 @@ module _ {r : Bool} {t : List ℕ} {w x n low : ℕ} {edge : Edge} {from to : �
   pub end-in : firstAt (edge .limit) ≤ w
   end-in = rw new-wide at (first-within t (seen r d′) (n - 1) (edge .limit) (rw (step .top .limit) (limit-least _ n _)))
 
-  pub shown-fits : (g : Pixel → ℕ) (s : List ℕ) → from + length (spanShown g r (line t (seen r s) (seen r d′)) n low edge) ≤ w
-  shown-fits g s =
-      rw (length-shown g r (line t (seen r s) (seen r d′)) n edge, ← step .stretched .size) (step .stretched .within)
+  pub shown-fits : (tear : Tear) (g : Pixel → ℕ) (s : List ℕ) → from + length (spanShown g r (line tear t (seen r s) (seen r d′)) n low edge) ≤ w
+  shown-fits tear g s =
+      rw (length-shown g r (line tear t (seen r s) (seen r d′)) n edge, ← step .stretched .size) (step .stretched .within)
 
-  module _ (s : List ℕ) (old : e ≡ viewRow r (line t s d) .limits) where
-    old-limits : seen r e ≡ listOf (limitAt (line t (seen r s) (seen r d))) (length (seen r d))
+  module _ (tear : Tear) (s : List ℕ) (old : e ≡ viewRow r (line tear t s d) .limits) where
+    old-limits : seen r e ≡ listOf (limitAt (line tear t (seen r s) (seen r d))) (length (seen r d))
     unfolding viewRow leftRow
     old-limits = ap (seen r) old ∙ seen-seen r _
 
@@ -82,23 +83,23 @@ module _ {r : Bool} {t : List ℕ} {w x n low : ℕ} {edge : Edge} {from to : �
     held-wide = length-seen r e ∙ step .held ∙ sym new-wide
 
     -- the held limits right of the block are those of the new depths too
-    beyond-true : (c : ℕ) → n ≤ c → c < length (seen r d′) → getD (seen r e) c (pos 0) ≡ limitAt (line t (seen r s) (seen r d′)) c
+    beyond-true : (c : ℕ) → n ≤ c → c < length (seen r d′) → getD (seen r e) c (pos 0) ≡ limitAt (line tear t (seen r s) (seen r d′)) c
     beyond-true c h k =
         ap (λ (l : List ℤ). getD l c (pos 0)) old-limits
-        ∙ getD-listOf (pos 0) (limitAt (line t (seen r s) (seen r d))) (length (seen r d)) c (rw (edited .same) at k)
-        ∙ sym (span-limit t (seen r s) (seen r d) (seen r d′) (firstColumn r w x (length candidate)) (n - 1) c edited (omega (arith, some-columns)))
+        ∙ getD-listOf (pos 0) (limitAt (line tear t (seen r s) (seen r d))) (length (seen r d)) c (rw (edited .same) at k)
+        ∙ sym (span-limit tear t (seen r s) (seen r d) (seen r d′) (firstColumn r w x (length candidate)) (n - 1) c edited (omega (arith, some-columns)))
 
     pub true-high : edge .limit ≡ limit (place t (seen r d′)) (length (seen r d′)) n
     true-high =
         step .top .limit
-        ∙ limit-true t (seen r d′) (seen r e) n (seen r s) held-wide (rw new-wide (step .most)) some-columns (rw new-wide columns-most) (λ k. beyond-true n (omega arith) k)
+        ∙ limit-true t (seen r d′) (seen r e) n tear (seen r s) held-wide (rw new-wide (step .most)) some-columns (rw new-wide columns-most) (λ k. beyond-true n (omega arith) k)
 
-    pub limits-new : e′ ≡ viewRow r (line t s d′) .limits
+    pub limits-new : e′ ≡ viewRow r (line tear t s d′) .limits
     unfolding viewRow leftRow
     limits-new =
         sym (seen-seen r e′)
         ∙ ap (seen r)
-        (limits-again t (seen r s) (seen r d) (seen r d′) (firstColumn r w x (length candidate)) (n - 1) n (edge .limit) edited (omega (arith, some-columns))
+        (limits-again tear t (seen r s) (seen r d) (seen r d′) (firstColumn r w x (length candidate)) (n - 1) n (edge .limit) edited (omega (arith, some-columns))
         (rw old-wide (step .most)) true-high old-limits (length-seen r e′ ∙ step .same ∙ sym (length-seen r e)) (step .limits))
 
     -- a position that is not drawn again lies outside the span, and one that is drawn shows the row
@@ -111,23 +112,23 @@ module _ {r : Bool} {t : List ℕ} {w x n low : ℕ} {edge : Edge} {from to : �
         ∙ moved-limit (edited-moved t (seen r d) (seen r d′) (firstColumn r w x (length candidate)) (n - 1) edited) n (omega (arith, some-columns))) in
         rw (m, e, ← step .bottom) (⊎-elim (λ k. inl (omega arith)) (λ k. inr (omega arith)) h)
 
-    drawn : (p : ℕ) → p < firstAt (edge .limit) → pixelBelow (line t (seen r s) (seen r d′)) n edge p ≡ pixelAt (line t (seen r s) (seen r d′)) p
+    drawn : (p : ℕ) → p < firstAt (edge .limit) → pixelBelow (line tear t (seen r s) (seen r d′)) n edge p ≡ pixelAt (line tear t (seen r s) (seen r d′)) p
     drawn p h =
-        below-pixel (line t (seen r s) (seen r d′)) n p edge some-columns (rw new-wide columns-most) true-high
-        (edge-true t (seen r s) (seen r d′) (seen r e) n (step .table) held-wide (rw new-wide (step .most)) beyond-true edge p _ (rw new-wide columns-most) true-high (step .top))
+        below-pixel (line tear t (seen r s) (seen r d′)) n p edge some-columns (rw new-wide columns-most) true-high
+        (edge-true tear t (seen r s) (seen r d′) (seen r e) n (step .table) held-wide (rw new-wide (step .most)) beyond-true edge p _ (rw new-wide columns-most) true-high (step .top))
         (omega arith)
 
-    pub plane-new : (g : Pixel → ℕ) (row : List ℕ) → row ≡ seen r (listOf (λ p. g (pixelAt (line t (seen r s) (seen r d)) p)) (length (seen r d))) → splice row from (spanShown g r (line t (seen r s) (seen r d′)) n low edge) ≡ seen r (listOf (λ p. g (pixelAt (line t (seen r s) (seen r d′)) p)) (length (seen r d′)))
+    pub plane-new : (g : Pixel → ℕ) (row : List ℕ) → row ≡ seen r (listOf (λ p. g (pixelAt (line tear t (seen r s) (seen r d)) p)) (length (seen r d))) → splice row from (spanShown g r (line tear t (seen r s) (seen r d′)) n low edge) ≡ seen r (listOf (λ p. g (pixelAt (line tear t (seen r s) (seen r d′)) p)) (length (seen r d′)))
     plane-new g row was =
-        let l = line t (seen r s) (seen r d′) in
+        let l = line tear t (seen r s) (seen r d′) in
         let lr : length row ≡ w = ap length was ∙ length-seen-list r _ (length (seen r d)) ∙ old-wide in
         let ys : List ℕ = spanShown g r l n low edge in
         let len : length (seen r (splice row from ys)) ≡ length (seen r row) =
-        length-seen r (splice row from ys) ∙ length-splice row from ys (rw lr (shown-fits g s)) ∙ sym (length-seen r row) in
+        length-seen r (splice row from ys) ∙ length-splice row from ys (rw lr (shown-fits tear g s)) ∙ sym (length-seen r row) in
         sym (seen-seen r (splice row from ys))
         ∙ ap (seen r)
         (rw (edited .same)
         (filled-rest
         (filled-change (shown-filled g r l n edge low w from row lr end-in (step .stretched .first)) (λ p u v. ap g (drawn p v)))
         (ap (seen r) was ∙ seen-seen r _) len
-        (λ p k h. ap g (span-pixel t (seen r s) (seen r d) (seen r d′) (firstColumn r w x (length candidate)) (n - 1) p edited k (undrawn p h)))))
+        (λ p k h. ap g (span-pixel tear t (seen r s) (seen r d) (seen r d′) (firstColumn r w x (length candidate)) (n - 1) p edited k (undrawn p h)))))

@@ -8,6 +8,7 @@ use mathlib.Core.List.{List}
 use mathlib.Core.Logic.{_⊎_}
 use lib.ListN.{length, getD}
 use lib.IntN.{ℤ, pos}
+use Rattle.model.specs.declared.Tear.{Tear}
 use Rattle.model.specs.declared.Pixel.{Pixel}
 use Rattle.model.specs.Lists.{listOf, rowOf}
 use Rattle.model.specs.Row.{Line, line, Row, place, signed}
@@ -42,15 +43,15 @@ pub record RowIn (w y : ℕ) (picture d : List ℕ) (v : View) : Type 0 where
   pub marks : y * markBytes w + markBytes w ≤ length (v .marks)
 
 -- row y of the depths d, drawn afresh
-abbrev pub drawnRow : Bool → List ℕ → List ℕ → ℕ → List ℕ → ℕ → Row
-drawnRow right t texture w d y = viewRow right (line t (rowOf texture w y) (rowOf d w y))
+abbrev pub drawnRow : Tear → Bool → List ℕ → List ℕ → ℕ → List ℕ → ℕ → Row
+drawnRow tear right t texture w d y = viewRow right (line tear t (rowOf texture w y) (rowOf d w y))
 
 -- row y of a view's planes is the fresh drawing of row y of its depths, its samples as they are read
-pub record SoundRow (right : Bool) (t texture : List ℕ) (w : ℕ) (d : List ℕ) (v : View) (y : ℕ) : Type 0 where
-  pub samples : readAll (rowOf (v .samples) w y) ≡ drawnRow right t texture w d y .samples
-  pub fronts : rowOf (v .fronts) w y ≡ drawnRow right t texture w d y .fronts
-  pub limits : rowOf (v .limits) w y ≡ drawnRow right t texture w d y .limits
-  pub marks : rowOf (v .marks) (markBytes w) y ≡ packRow (markBytes w) (drawnRow right t texture w d y .marks)
+pub record SoundRow (tear : Tear) (right : Bool) (t texture : List ℕ) (w : ℕ) (d : List ℕ) (v : View) (y : ℕ) : Type 0 where
+  pub samples : readAll (rowOf (v .samples) w y) ≡ drawnRow tear right t texture w d y .samples
+  pub fronts : rowOf (v .fronts) w y ≡ drawnRow tear right t texture w d y .fronts
+  pub limits : rowOf (v .limits) w y ≡ drawnRow tear right t texture w d y .limits
+  pub marks : rowOf (v .marks) (markBytes w) y ≡ packRow (markBytes w) (drawnRow tear right t texture w d y .marks)
 
 -- what planes of samples, fronts and marks hold at entry i of row y
 abbrev pub heldAt : ℕ → List ℕ → List ℕ → List ℕ → ℕ → ℕ → Pixel
@@ -95,8 +96,8 @@ pub record Changed (right : Bool) (t : List ℕ) (w y x : ℕ) (candidate d d′
 
 -- Positions from `start` on can be drawn into parts of just that stretch, from the columns below n and the edge right of them, and their marks
 -- can be put from entry `at` on.
-pub record Drawable (right : Bool) (t texture d : List ℕ) (n : ℕ) (edge : Edge) (start at : ℕ) (s f m : List ℕ) : Type 0 where
-  pub ready : Ready (line t texture d)
+pub record Drawable (tear : Tear) (right : Bool) (t texture d : List ℕ) (n : ℕ) (edge : Edge) (start at : ℕ) (s f m : List ℕ) : Type 0 where
+  pub ready : Ready (line tear t texture d)
   pub some : 0 < n
   pub columns : n ≤ length d
   pub edged : Edged t (seen right d) n edge
@@ -139,11 +140,11 @@ pub record RowRedrawn (right : Bool) (l : Line) (w y n low : ℕ) (edge : Edge) 
 
 -- Row y of one view is committed: the candidate stands at its column x, and every row that was sound is sound again. No other row changes,
 -- and of this one only the entries `from` up to `to` are drawn anew, with no sample above the greatest.
-pub record RowCommitted (right : Bool) (t texture : List ℕ) (w y x : ℕ) (candidate d d′ : List ℕ) (v v′ : View) (from to : ℕ) : Type 0 where
+pub record RowCommitted (tear : Tear) (right : Bool) (t texture : List ℕ) (w y x : ℕ) (candidate d d′ : List ℕ) (v v′ : View) (from to : ℕ) : Type 0 where
   pub depths : d′ ≡ splice d (y * w + x) candidate
-  pub sound : (k : ℕ) → SoundRow right t texture w d v k → SoundRow right t texture w d′ v′ k
+  pub sound : (k : ℕ) → SoundRow tear right t texture w d v k → SoundRow tear right t texture w d′ v′ k
   pub others : (k : ℕ) → (k ≡ y → ⊥) → viewRows w v′ k ≡ viewRows w v k
   pub order : from ≤ to
   pub within : to ≤ w
   pub low : Low (v .samples) → Low (v′ .samples)
-  pub kept : SoundRow right t texture w d v y → (i : ℕ) → i < w → (i < from) ⊎ (to ≤ i) → heldIn w v′ y i ≡ heldIn w v y i
+  pub kept : SoundRow tear right t texture w d v y → (i : ℕ) → i < w → (i < from) ⊎ (to ≤ i) → heldIn w v′ y i ≡ heldIn w v y i

@@ -1,4 +1,5 @@
 // What SET writes of one view, row by row: the depths, the limits up to the block, and the span of samples, front depths and marks.
+use model::Tear;
 use pixel::Edge;
 ghost use mathlib.Core.Path.{_≡_};
 ghost use mathlib.Core.Bool.{true};
@@ -165,6 +166,7 @@ fn change_row(
 // Draws the positions from `start` on from the columns below `columns` and the edge right of them into parts of just that stretch, and puts
 // their marks into the row's from entry `at` on; `flags` is room for them.
 fn draw_marked(
+    tear: Tear,
     right: bool,
     table: &[u16; 256],
     texture: &[u16],
@@ -178,12 +180,13 @@ fn draw_marked(
     marks: &mut [u8],
     flags: &mut [u8],
 )
-    requires { ⌜ Drawable right (now table) (now texture) (now depths) columns edge start at (now samples) (now fronts) (now marks) ⌝ }
+    requires { ⌜ Drawable tear right (now table) (now texture) (now depths) columns edge start at (now samples) (now fronts) (now marks) ⌝ }
     requires { ⌜ length (now flags) ≡ length (now samples) ⌝ }
-    ensures { λ _. ⌜ PartDrawn right (line (now (table .entry)) (seen right (now (texture .entry))) (seen right (now (depths .entry)))) columns edge start at (length (now (samples .entry)))
+    ensures { λ _. ⌜ PartDrawn right (line tear (now (table .entry)) (seen right (now (texture .entry))) (seen right (now (depths .entry)))) columns edge start at (length (now (samples .entry)))
         (now (marks .entry)) (now (samples .exit)) (now (fronts .exit)) (now (marks .exit)) ⌝ }
 {
     row::draw_part(
+        tear,
         right,
         table,
         texture,
@@ -207,6 +210,7 @@ fn room() -> [u8; 4096]
 
 // The same with room for a whole row: a stretch of more than 64 positions is rare.
 fn draw_long(
+    tear: Tear,
     right: bool,
     table: &[u16; 256],
     texture: &[u16],
@@ -219,13 +223,14 @@ fn draw_long(
     fronts: &mut [u8],
     marks: &mut [u8],
 )
-    requires { ⌜ Drawable right (now table) (now texture) (now depths) columns edge start at (now samples) (now fronts) (now marks) ⌝ }
-    ensures { λ _. ⌜ PartDrawn right (line (now (table .entry)) (seen right (now (texture .entry))) (seen right (now (depths .entry)))) columns edge start at (length (now (samples .entry)))
+    requires { ⌜ Drawable tear right (now table) (now texture) (now depths) columns edge start at (now samples) (now fronts) (now marks) ⌝ }
+    ensures { λ _. ⌜ PartDrawn right (line tear (now (table .entry)) (seen right (now (texture .entry))) (seen right (now (depths .entry)))) columns edge start at (length (now (samples .entry)))
         (now (marks .entry)) (now (samples .exit)) (now (fronts .exit)) (now (marks .exit)) ⌝ }
 {
     let mut flags = room();
     let n = samples.len();
     draw_marked(
+        tear,
         right,
         table,
         texture,
@@ -243,6 +248,7 @@ fn draw_long(
 
 // The same with as much room as the stretch asks for.
 fn draw_stretch(
+    tear: Tear,
     right: bool,
     table: &[u16; 256],
     texture: &[u16],
@@ -255,13 +261,14 @@ fn draw_stretch(
     fronts: &mut [u8],
     marks: &mut [u8],
 )
-    requires { ⌜ Drawable right (now table) (now texture) (now depths) columns edge start at (now samples) (now fronts) (now marks) ⌝ }
-    ensures { λ _. ⌜ PartDrawn right (line (now (table .entry)) (seen right (now (texture .entry))) (seen right (now (depths .entry)))) columns edge start at (length (now (samples .entry)))
+    requires { ⌜ Drawable tear right (now table) (now texture) (now depths) columns edge start at (now samples) (now fronts) (now marks) ⌝ }
+    ensures { λ _. ⌜ PartDrawn right (line tear (now (table .entry)) (seen right (now (texture .entry))) (seen right (now (depths .entry)))) columns edge start at (length (now (samples .entry)))
         (now (marks .entry)) (now (samples .exit)) (now (fronts .exit)) (now (marks .exit)) ⌝ }
 {
     let n = samples.len();
     if 64 < n {
         draw_long(
+            tear,
             right,
             table,
             texture,
@@ -278,6 +285,7 @@ fn draw_stretch(
     }
     let mut flags = [0u8; 64];
     draw_marked(
+        tear,
         right,
         table,
         texture,
@@ -296,6 +304,7 @@ fn draw_stretch(
 // Draws the span from `low` to the edge of row y from the columns below `columns`, and answers its entries. Of samples and fronts only the
 // span's own stretch is lent for writing.
 fn redraw(
+    tear: Tear,
     right: bool,
     table: &[u16; 256],
     texture: &[u16],
@@ -308,10 +317,10 @@ fn redraw(
     fronts: &mut [u8],
     marks: &mut [u8],
 ) -> Stretch
-    requires { ⌜ Ready (line (now table) (seen right (now texture)) (seen right (now depths))) ⌝ }
+    requires { ⌜ Ready (line tear (now table) (seen right (now texture)) (seen right (now depths))) ⌝ }
     requires { ⌜ (0 < columns) × ((columns ≤ length (seen right (now depths))) × (Edged (now table) (seen right (now depths)) columns edge)) ⌝ }
     requires { ⌜ (y * length (now depths) + length (now depths) ≤ length (now samples)) × ((y * length (now depths) + length (now depths) ≤ length (now fronts)) × (length (now marks) ≡ markBytes (length (now depths)))) ⌝ }
-    ensures { λ r. ⌜ Redrawn right (line (now (table .entry)) (seen right (now (texture .entry))) (seen right (now (depths .entry)))) (length (now (depths .entry))) y columns low edge (r .from) (r .to)
+    ensures { λ r. ⌜ Redrawn right (line tear (now (table .entry)) (seen right (now (texture .entry))) (seen right (now (depths .entry)))) (length (now (depths .entry))) y columns low edge (r .from) (r .to)
         (now (samples .entry)) (now (fronts .entry)) (now (marks .entry)) (now (samples .exit)) (now (fronts .exit)) (now (marks .exit)) ⌝ }
 {
     let start = row::first_at(low);
@@ -325,6 +334,7 @@ fn redraw(
     let from = y * w + at;
     let to = from + n;
     draw_stretch(
+        tear,
         right,
         table,
         texture,
@@ -345,6 +355,7 @@ fn redraw(
 
 // The same for planes: the row's texture, depths and marks are lent.
 fn redraw_row(
+    tear: Tear,
     right: bool,
     table: &[u16; 256],
     texture: &[u16],
@@ -362,7 +373,7 @@ fn redraw_row(
     requires { ⌜ (0 < columns) × ((columns ≤ w) × (Edged (now table) (seen right (rowOf (now depths) w y)) columns edge)) ⌝ }
     requires { ⌜ (y * w + w ≤ length (now texture)) × (y * w + w ≤ length (now depths)) ⌝ }
     requires { ⌜ (y * w + w ≤ length (now samples)) × ((y * w + w ≤ length (now fronts)) × (y * markBytes w + markBytes w ≤ length (now marks))) ⌝ }
-    ensures { λ r. ⌜ RowRedrawn right (line (now (table .entry)) (seen right (rowOf (now (texture .entry)) w y)) (seen right (rowOf (now (depths .entry)) w y))) w y columns low edge (r .from) (r .to)
+    ensures { λ r. ⌜ RowRedrawn right (line tear (now (table .entry)) (seen right (rowOf (now (texture .entry)) w y)) (seen right (rowOf (now (depths .entry)) w y))) w y columns low edge (r .from) (r .to)
         (now (samples .entry)) (now (fronts .entry)) (now (marks .entry)) (now (samples .exit)) (now (fronts .exit)) (now (marks .exit)) ⌝ }
 {
     let base = y * w;
@@ -371,6 +382,7 @@ fn redraw_row(
     let byte = y * bytes;
     let last = byte + bytes;
     redraw(
+        tear,
         right,
         table,
         &texture[base..end],
@@ -387,6 +399,7 @@ fn redraw_row(
 
 // Writes the candidate into row y from `column` on, and brings the view's planes up to date. Answers the entries that are drawn anew.
 pub fn commit_row(
+    tear: Tear,
     right: bool,
     table: &[u16; 256],
     texture: &[u16],
@@ -403,7 +416,7 @@ pub fn commit_row(
     requires { ⌜ (tableOk (now table) ≡ true) × (w ≤ 4096) ⌝ }
     requires { ⌜ RowIn w y (now texture) (now depths) (view (now samples) (now fronts) (now limits) (now marks)) ⌝ }
     requires { ⌜ (0 < length (now candidate)) × (column + length (now candidate) ≤ w) ⌝ }
-    ensures { λ r. ⌜ RowCommitted right (now (table .entry)) (now (texture .entry)) w y column (now (candidate .entry)) (now (depths .entry)) (now (depths .exit))
+    ensures { λ r. ⌜ RowCommitted tear right (now (table .entry)) (now (texture .entry)) w y column (now (candidate .entry)) (now (depths .entry)) (now (depths .exit))
         (view (now (samples .entry)) (now (fronts .entry)) (now (limits .entry)) (now (marks .entry)))
         (view (now (samples .exit)) (now (fronts .exit)) (now (limits .exit)) (now (marks .exit))) (r .from) (r .to) ⌝ }
 {
@@ -412,6 +425,7 @@ pub fn commit_row(
     let low = edit.low;
     let edge = edit.edge;
     redraw_row(
+        tear,
         right,
         table,
         texture,

@@ -3,6 +3,7 @@ use Prim.Native.Nat.{ℕ, _+_, _*_, _≤_}
 use mathlib.Core.Path.{_≡_}
 use mathlib.Core.List.{List}
 use lib.IntN.{ℤ, pos, subℕ, _+ℤ_, natAbs}
+use Rattle.model.specs.declared.Tear.{Tear}
 use Rattle.model.specs.declared.Settings.{Settings}
 use Rattle.model.specs.declared.Block.{Block}
 use Rattle.model.specs.declared.Candidate.{Candidate}
@@ -17,9 +18,9 @@ use Rattle.model.specs.Promises.{GetPost}
 use Rattle.decide.specs.declared.Decision.{Decision}
 
 -- settings, and held planes, from what a call is lent
-abbrev pub settingsOf : ℕ → ℕ → List ℕ → List ℕ → ℕ → ℕ → ℕ → Settings
-settingsOf w h left right share tolerance total =
-    record { w = w; h = h; left = left; right = right; share = share; tolerance = tolerance; total = total }
+abbrev pub settingsOf : ℕ → ℕ → List ℕ → List ℕ → ℕ → ℕ → Tear → ℕ → Settings
+settingsOf w h left right share tolerance tear total =
+    record { w = w; h = h; left = left; right = right; share = share; tolerance = tolerance; tear = tear; total = total }
 
 abbrev pub heldOf : List ℕ → List ℕ → List ℤ → List ℕ → List ℕ → List ℕ → List ℤ → List ℕ → List ℕ → Held
 heldOf ls lf ll lm rs rf rl rm combined = held (planes.view ls lf ll lm) (planes.view rs rf rl rm) combined

@@ -2,6 +2,7 @@
 use model::Block;
 use model::Candidate;
 use model::Refusal;
+use model::Tear;
 use trial::Sums;
 use validate::Lengths;
 use validate::ViewLengths;
@@ -93,6 +94,7 @@ fn try_lent(
     rightTable: &[u16; 256],
     share: u8,
     tolerance: u8,
+    tear: Tear,
     left: &[u16],
     right: &[u16],
     reference: &[u16],
@@ -111,12 +113,12 @@ fn try_lent(
     block: Block,
     bytes: &[u8],
 ) -> Sums
-    requires { ⌜ earlyNumber (settingsOf w h (now leftTable) (now rightTable) share tolerance 0)
+    requires { ⌜ earlyNumber (settingsOf w h (now leftTable) (now rightTable) share tolerance tear 0)
         (pictures (now left) (now right) (now reference))
         (depths (now leftDepths) (now rightDepths))
         (heldOf (now leftSamples) (now leftFronts) (now leftLimits) (now leftMarks) (now rightSamples) (now rightFronts) (now rightLimits) (now rightMarks) (now combined))
         view block Full (length (now bytes)) ≡ 0 ⌝ }
-    ensures { λ r. ⌜ Tried (settingsOf w h (now (leftTable .entry)) (now (rightTable .entry)) share tolerance 0)
+    ensures { λ r. ⌜ Tried (settingsOf w h (now (leftTable .entry)) (now (rightTable .entry)) share tolerance tear 0)
         (pictures (now (left .entry)) (now (right .entry)) (now (reference .entry)))
         (depths (now (leftDepths .entry)) (now (rightDepths .entry)))
         (heldOf (now (leftSamples .entry)) (now (leftFronts .entry)) (now (leftLimits .entry)) (now (leftMarks .entry)) (now (rightSamples .entry)) (now (rightFronts .entry)) (now (rightLimits .entry)) (now (rightMarks .entry)) (now (combined .entry)))
@@ -130,6 +132,7 @@ fn try_lent(
     let height = block.height as usize;
     if is_right(view) {
         return trial::trial_block(
+            tear,
             true,
             rightTable,
             share,
@@ -152,6 +155,7 @@ fn try_lent(
         );
     }
     trial::trial_block(
+        tear,
         false,
         leftTable,
         share,
@@ -182,6 +186,7 @@ fn try_made(
     rightTable: &[u16; 256],
     share: u8,
     tolerance: u8,
+    tear: Tear,
     left: &[u16],
     right: &[u16],
     reference: &[u16],
@@ -201,13 +206,13 @@ fn try_made(
     candidate: Candidate,
     bytes: &[u8],
 ) -> Sums
-    requires { ⌜ earlyNumber (settingsOf w h (now leftTable) (now rightTable) share tolerance 0)
+    requires { ⌜ earlyNumber (settingsOf w h (now leftTable) (now rightTable) share tolerance tear 0)
         (pictures (now left) (now right) (now reference))
         (depths (now leftDepths) (now rightDepths))
         (heldOf (now leftSamples) (now leftFronts) (now leftLimits) (now leftMarks) (now rightSamples) (now rightFronts) (now rightLimits) (now rightMarks) (now combined))
         view block candidate (length (now bytes)) ≡ 0 ⌝ }
     requires { ⌜ isLent candidate ≡ false ⌝ }
-    ensures { λ r. ⌜ Tried (settingsOf w h (now (leftTable .entry)) (now (rightTable .entry)) share tolerance 0)
+    ensures { λ r. ⌜ Tried (settingsOf w h (now (leftTable .entry)) (now (rightTable .entry)) share tolerance tear 0)
         (pictures (now (left .entry)) (now (right .entry)) (now (reference .entry)))
         (depths (now (leftDepths .entry)) (now (rightDepths .entry)))
         (heldOf (now (leftSamples .entry)) (now (leftFronts .entry)) (now (leftLimits .entry)) (now (leftMarks .entry)) (now (rightSamples .entry)) (now (rightFronts .entry)) (now (rightLimits .entry)) (now (rightMarks .entry)) (now (combined .entry)))
@@ -221,6 +226,7 @@ fn try_made(
     let height = block.height as usize;
     if is_right(view) {
         return trial::trial_made(
+            tear,
             true,
             rightTable,
             share,
@@ -244,6 +250,7 @@ fn try_made(
         );
     }
     trial::trial_made(
+        tear,
         false,
         leftTable,
         share,
@@ -275,6 +282,7 @@ fn try_candidate(
     rightTable: &[u16; 256],
     share: u8,
     tolerance: u8,
+    tear: Tear,
     left: &[u16],
     right: &[u16],
     reference: &[u16],
@@ -294,12 +302,12 @@ fn try_candidate(
     candidate: Candidate,
     bytes: &[u8],
 ) -> Sums
-    requires { ⌜ earlyNumber (settingsOf w h (now leftTable) (now rightTable) share tolerance 0)
+    requires { ⌜ earlyNumber (settingsOf w h (now leftTable) (now rightTable) share tolerance tear 0)
         (pictures (now left) (now right) (now reference))
         (depths (now leftDepths) (now rightDepths))
         (heldOf (now leftSamples) (now leftFronts) (now leftLimits) (now leftMarks) (now rightSamples) (now rightFronts) (now rightLimits) (now rightMarks) (now combined))
         view block candidate (length (now bytes)) ≡ 0 ⌝ }
-    ensures { λ r. ⌜ Tried (settingsOf w h (now (leftTable .entry)) (now (rightTable .entry)) share tolerance 0)
+    ensures { λ r. ⌜ Tried (settingsOf w h (now (leftTable .entry)) (now (rightTable .entry)) share tolerance tear 0)
         (pictures (now (left .entry)) (now (right .entry)) (now (reference .entry)))
         (depths (now (leftDepths .entry)) (now (rightDepths .entry)))
         (heldOf (now (leftSamples .entry)) (now (leftFronts .entry)) (now (leftLimits .entry)) (now (leftMarks .entry)) (now (rightSamples .entry)) (now (rightFronts .entry)) (now (rightLimits .entry)) (now (rightMarks .entry)) (now (combined .entry)))
@@ -313,6 +321,7 @@ fn try_candidate(
             rightTable,
             share,
             tolerance,
+            tear,
             left,
             right,
             reference,
@@ -339,6 +348,7 @@ fn try_candidate(
         rightTable,
         share,
         tolerance,
+        tear,
         left,
         right,
         reference,
@@ -368,6 +378,7 @@ pub fn decide<'a>(
     rightTable: &'a [u16; 256],
     share: u8,
     tolerance: u8,
+    tear: Tear,
     total: u64,
     left: &[u16],
     right: &[u16],
@@ -388,7 +399,7 @@ pub fn decide<'a>(
     candidate: Candidate,
     bytes: &[u8],
 ) -> Decision
-    ensures { λ r. ⌜ Decided (settingsOf w h (now (leftTable .entry)) (now (rightTable .entry)) share tolerance total)
+    ensures { λ r. ⌜ Decided (settingsOf w h (now (leftTable .entry)) (now (rightTable .entry)) share tolerance tear total)
         (pictures (now (left .entry)) (now (right .entry)) (now (reference .entry)))
         (depths (now (leftDepths .entry)) (now (rightDepths .entry)))
         (heldOf (now (leftSamples .entry)) (now (leftFronts .entry)) (now (leftLimits .entry)) (now (leftMarks .entry)) (now (rightSamples .entry)) (now (rightFronts .entry)) (now (rightLimits .entry)) (now (rightMarks .entry)) (now (combined .entry)))
@@ -414,7 +425,8 @@ pub fn decide<'a>(
         reference: reference.len(),
         combined: combined.len(),
     };
-    let before = validate::early(w, h, leftTable, rightTable, share, lengths, view, block);
+    let common = validate::common(w, h, leftTable, rightTable, share, tear, lengths);
+    let before = validate::with_block(common, w, h, view, block);
     let first = validate::with_candidate(before, block, candidate, bytes.len());
     if model::number(first) != 0 {
         return refused(first, total);
@@ -426,6 +438,7 @@ pub fn decide<'a>(
         rightTable,
         share,
         tolerance,
+        tear,
         left,
         right,
         reference,

@@ -11,6 +11,7 @@ use native.Mathlib.Omega.{arith}
 use native.Mathlib.Nat.{mul-comm, not-suc-le-zero}
 use lib.ListN.{length, take, drop}
 use lib.IntN.{ℤ, pos}
+use Rattle.model.specs.declared.Tear.{Tear}
 use Rattle.model.specs.declared.Settings.{Settings}
 use Rattle.model.specs.Lists.{rowOf}
 use Rattle.model.specs.Row.{line}
@@ -82,15 +83,15 @@ module _ {A : Type 0} (z : A) (p : List A) (w y : ℕ) (ys : List A) (fits : y *
 
 -- four planes that got row y back
 pub row-drawn :
-    (right : Bool) (t : List ℕ) (w y : ℕ) (texture depths : List ℕ) (v : View) (s f : List ℕ) (e : List ℤ) (m : List ℕ) →
+    (tear : Tear) (right : Bool) (t : List ℕ) (w y : ℕ) (texture depths : List ℕ) (v : View) (s f : List ℕ) (e : List ℤ) (m : List ℕ) →
     PlanesIn w y texture depths v → length s ≡ w → length f ≡ w → length e ≡ w → length m ≡ markBytes w →
-    view s f e m ≡ drawnRow right t w texture depths y →
-    RowDrawn right t w y texture depths v
+    view s f e m ≡ drawnRow tear right t w texture depths y →
+    RowDrawn tear right t w y texture depths v
     (view (take (y * w) (v .samples) ++ (s ++ drop (y * w + w - y * w) (drop (y * w) (v .samples))))
     (take (y * w) (v .fronts) ++ (f ++ drop (y * w + w - y * w) (drop (y * w) (v .fronts))))
     (take (y * w) (v .limits) ++ (e ++ drop (y * w + w - y * w) (drop (y * w) (v .limits))))
     (take (y * markBytes w) (v .marks) ++ (m ++ drop (y * markBytes w + markBytes w - y * markBytes w) (drop (y * markBytes w) (v .marks)))))
-row-drawn right t w y texture depths v s f e m p ls lf le lm same =
+row-drawn tear right t w y texture depths v s f e m p ls lf le lm same =
     record {
       drawn =
           rw (back-row 0 (v .samples) w y s (p .samples-in) ls, back-row 0 (v .fronts) w y f (p .fronts-in) lf, back-row (pos 0) (v .limits) w y e (p .limits-in) le, back-row 0 (v .marks) (markBytes w) y m (p .marks-in) lm)
@@ -104,33 +105,33 @@ abbrev pub part : {A : Type 0} → List A → ℕ → ℕ → List A
 part p w y = take (y * w + w - y * w) (drop (y * w) p)
 
 -- the parts of row y can be drawn from
-pub parts-ready : (t : List ℕ) (w y : ℕ) (texture depths : List ℕ) (v : View) → Table t → 0 < w → w ≤ 4096 → PlanesIn w y texture depths v → Ready (line t (part texture w y) (part depths w y))
-parts-ready t w y texture depths v h some most p =
+pub parts-ready : (tear : Tear) (t : List ℕ) (w y : ℕ) (texture depths : List ℕ) (v : View) → Table t → 0 < w → w ≤ 4096 → PlanesIn w y texture depths v → Ready (line tear t (part texture w y) (part depths w y))
+parts-ready tear t w y texture depths v h some most p =
     let l = part-length depths (y * w) w (p .depths-in) in
     record { table = h; texture = part-length texture (y * w) w (p .texture-in) ∙ sym l; some = omega (arith, l); most = omega (arith, l) }
 
 -- what was drawn from the parts is row y
 pub parts-drawn :
-    (right : Bool) (t : List ℕ) (w y : ℕ) (texture depths s f g : List ℕ) (e : List ℤ) (m : List ℕ) →
-    Drawn (viewRow right (line t (part texture w y) (part depths w y))) s f g e → length g ≡ w → m ≡ packRow (markBytes (length g)) g →
-    view s f e m ≡ drawnRow right t w texture depths y
+    (tear : Tear) (right : Bool) (t : List ℕ) (w y : ℕ) (texture depths s f g : List ℕ) (e : List ℤ) (m : List ℕ) →
+    Drawn (viewRow right (line tear t (part texture w y) (part depths w y))) s f g e → length g ≡ w → m ≡ packRow (markBytes (length g)) g →
+    view s f e m ≡ drawnRow tear right t w texture depths y
 unfolding drawnRow
-parts-drawn right t w y texture depths s f g e m d l k =
-    let ms : m ≡ packRow (markBytes w) (viewRow right (line t (part texture w y) (part depths w y)) .marks) =
+parts-drawn tear right t w y texture depths s f g e m d l k =
+    let ms : m ≡ packRow (markBytes w) (viewRow right (line tear t (part texture w y) (part depths w y)) .marks) =
     k ∙ ap (λ (n : ℕ). packRow (markBytes n) g) l ∙ ap (packRow (markBytes w)) (d .shows .marks-are) in
     rw (d .shows .samples-are, d .shows .fronts-are, d .limits-are, ms, part-row texture w y, part-row depths w y)
 
 -- ---- the rows drawn so far
 
-pub view-none : (right : Bool) (t : List ℕ) (w : ℕ) (texture depths : List ℕ) (v : View) → ViewDrawn right t w 0 texture depths v
-view-none right t w texture depths v = record { rows-are = λ k h. absurd (not-suc-le-zero h) }
+pub view-none : (tear : Tear) (right : Bool) (t : List ℕ) (w : ℕ) (texture depths : List ℕ) (v : View) → ViewDrawn tear right t w 0 texture depths v
+view-none tear right t w texture depths v = record { rows-are = λ k h. absurd (not-suc-le-zero h) }
 
-pub view-next : {right : Bool} {t : List ℕ} {w y : ℕ} {texture depths : List ℕ} {v v′ : View} → ViewDrawn right t w y texture depths v → RowDrawn right t w y texture depths v v′ → ViewDrawn right t w (y + 1) texture depths v′
-view-next {right} {t} {w} {y} {texture} {depths} {v} {v′} a r =
+pub view-next : {tear : Tear} {right : Bool} {t : List ℕ} {w y : ℕ} {texture depths : List ℕ} {v v′ : View} → ViewDrawn tear right t w y texture depths v → RowDrawn tear right t w y texture depths v v′ → ViewDrawn tear right t w (y + 1) texture depths v′
+view-next {tear} {right} {t} {w} {y} {texture} {depths} {v} {v′} a r =
     record {
       rows-are = λ k h.
           ⊎-elim (λ l. r .others k (λ q. omega arith) ∙ a .rows-are k l)
-          (λ l. let e : k ≡ y = omega arith in subst (λ (i : ℕ). viewRows w v′ i ≡ drawnRow right t w texture depths i) (sym e) (r .drawn)) (lt-or-le k y);
+          (λ l. let e : k ≡ y = omega arith in subst (λ (i : ℕ). viewRows w v′ i ≡ drawnRow tear right t w texture depths i) (sym e) (r .drawn)) (lt-or-le k y);
     }
 
 -- ---- the fresh drawing
@@ -138,7 +139,7 @@ view-next {right} {t} {w} {y} {texture} {depths} {v} {v′} a r =
 pub view-whole :
     (s : Settings) (p : Pictures) (d : Depths) (right : Bool) (v : View) → DepthsSized s d →
     PlanesOf (s .w) (s .h) (textureOf p right) (depthsOf d right) v →
-    ViewDrawn right (tableOf s right) (s .w) (s .h) (textureOf p right) (depthsOf d right) v → v ≡ freshView s p d right
+    ViewDrawn (s .tear) right (tableOf s right) (s .w) (s .h) (textureOf p right) (depthsOf d right) v → v ≡ freshView s p d right
 unfolding drawnRow freshRow
 view-whole s p d right v z o a =
     let wh = mul-comm (s .w) (s .h) in

@@ -4,6 +4,7 @@ use mathlib.Core.Path.{_≡_}
 use mathlib.Core.Bool.{Bool, true}
 use mathlib.Core.List.{List}
 use lib.ListN.{length}
+use Rattle.model.specs.declared.Tear.{Tear}
 use Rattle.model.specs.Lists.{rowOf}
 use Rattle.model.specs.Row.{line}
 use Rattle.model.specs.Views.{viewRow}
@@ -16,9 +17,9 @@ abbrev pub Table : List ℕ → Type 0
 Table t = tableOk t ≡ true
 
 -- row y of a view, drawn, with its marks packed
-unfoldable pub drawnRow : Bool → List ℕ → ℕ → List ℕ → List ℕ → ℕ → View
-drawnRow right t w texture depths y =
-    let r = viewRow right (line t (rowOf texture w y) (rowOf depths w y)) in
+unfoldable pub drawnRow : Tear → Bool → List ℕ → ℕ → List ℕ → List ℕ → ℕ → View
+drawnRow tear right t w texture depths y =
+    let r = viewRow right (line tear t (rowOf texture w y) (rowOf depths w y)) in
     view (r .samples) (r .fronts) (r .limits) (packRow (markBytes w) (r .marks))
 
 -- row y lies within planes w wide
@@ -40,10 +41,10 @@ pub record PlanesOf (w h : ℕ) (texture depths : List ℕ) (v : View) : Type 0 
   pub marks-of : length (v .marks) ≡ markBytes w * h
 
 -- row y of the planes is drawn, and every other row is as it was
-pub record RowDrawn (right : Bool) (t : List ℕ) (w y : ℕ) (texture depths : List ℕ) (v v′ : View) : Type 0 where
-  pub drawn : viewRows w v′ y ≡ drawnRow right t w texture depths y
+pub record RowDrawn (tear : Tear) (right : Bool) (t : List ℕ) (w y : ℕ) (texture depths : List ℕ) (v v′ : View) : Type 0 where
+  pub drawn : viewRows w v′ y ≡ drawnRow tear right t w texture depths y
   pub others : (k : ℕ) → (k ≡ y → ⊥) → viewRows w v′ k ≡ viewRows w v k
 
 -- the first n rows of the planes are drawn
-pub record ViewDrawn (right : Bool) (t : List ℕ) (w n : ℕ) (texture depths : List ℕ) (v : View) : Type 0 where
-  pub rows-are : (k : ℕ) → k < n → viewRows w v k ≡ drawnRow right t w texture depths k
+pub record ViewDrawn (tear : Tear) (right : Bool) (t : List ℕ) (w n : ℕ) (texture depths : List ℕ) (v : View) : Type 0 where
+  pub rows-are : (k : ℕ) → k < n → viewRows w v k ≡ drawnRow tear right t w texture depths k

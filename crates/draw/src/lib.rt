@@ -1,4 +1,5 @@
 // Whole planes drawn row by row: the planes of one view, and the combined picture with its total.
+use model::Tear;
 ghost use mathlib.Core.Path.{_≡_};
 ghost use Prim.Native.Nat.{_+_, _*_, _≤_, _<_};
 ghost use lib.ListN.{length};
@@ -11,6 +12,7 @@ ghost use Rattle.draw.specs.Combination.{heldRows, SideIn, SideOf, rowEr
 
 // Draws row y of a view's planes; `flags` is room for the row's marks.
 pub fn draw_plane_row(
+    tear: Tear,
     right: bool,
     table: &[u16; 256],
     w: usize,
@@ -26,13 +28,14 @@ pub fn draw_plane_row(
     requires { ⌜ (Table (now table)) × ((0 < w) × (w ≤ 4096)) ⌝ }
     requires { ⌜ PlanesIn w y (now texture) (now depths) (view (now samples) (now fronts) (now limits) (now marks)) ⌝ }
     requires { ⌜ length (now flags) ≡ w ⌝ }
-    ensures { λ _. ⌜ RowDrawn right (now (table .entry)) w y (now (texture .entry)) (now (depths .entry))
+    ensures { λ _. ⌜ RowDrawn tear right (now (table .entry)) w y (now (texture .entry)) (now (depths .entry))
         (view (now (samples .entry)) (now (fronts .entry)) (now (limits .entry)) (now (marks .entry)))
         (view (now (samples .exit)) (now (fronts .exit)) (now (limits .exit)) (now (marks .exit))) ⌝ }
 {
     let from = y * w;
     let to = from + w;
     row::draw_row(
+        tear,
         right,
         table,
         &texture[from..to],
@@ -50,6 +53,7 @@ pub fn draw_plane_row(
 
 // Draws every row of a view's planes.
 pub fn draw_view(
+    tear: Tear,
     right: bool,
     table: &[u16; 256],
     w: usize,
@@ -63,13 +67,14 @@ pub fn draw_view(
 )
     requires { ⌜ (Table (now table)) × ((0 < w) × (w ≤ 4096)) ⌝ }
     requires { ⌜ PlanesOf w h (now texture) (now depths) (view (now samples) (now fronts) (now limits) (now marks)) ⌝ }
-    ensures { λ _. ⌜ ViewDrawn right (now (table .entry)) w h (now (texture .entry)) (now (depths .entry))
+    ensures { λ _. ⌜ ViewDrawn tear right (now (table .entry)) w h (now (texture .entry)) (now (depths .entry))
         (view (now (samples .exit)) (now (fronts .exit)) (now (limits .exit)) (now (marks .exit))) ⌝ }
 {
     let mut flags = [0u8; 4096];
     let mut y = 0;
     while y < h {
         draw_plane_row(
+            tear,
             right,
             table,
             w,

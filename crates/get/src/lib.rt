@@ -34,6 +34,7 @@ pub fn get(
         (planes.held (planes.view (now (leftSamples .entry)) (now (leftFronts .entry)) (now (leftLimits .entry)) (now (leftMarks .entry))) (planes.view (now (rightSamples .entry)) (now (rightFronts .entry)) (now (rightLimits .entry)) (now (rightMarks .entry))) (now (combined .entry)))
         view block candidate (now (bytes .entry)) r ⌝ }
 {
+    let tear = settings.tear;
     let decision = decide::decide(
         settings.w,
         settings.h,
@@ -41,6 +42,7 @@ pub fn get(
         &settings.right,
         settings.share,
         settings.tolerance,
+        tear,
         settings.total,
         left,
         right,

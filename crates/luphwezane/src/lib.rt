@@ -4,9 +4,10 @@ use model::Block;
 use model::Count;
 use model::Report;
 use model::Settings;
+use model::Tear;
 use shape::Shape;
 ghost use Rattle.model.specs.Planes as planes;
-ghost use Rattle.model.specs.Promises.{RenderPost, OpenPost, GetPost, SetPost, TakeBackPost, CheckPost, HolesPost};
+ghost use Rattle.model.specs.Promises.{RenderPost, OpenPost, MovePost, GetPost, SetPost, TakeBackPost, CheckPost, HolesPost};
 ghost use Rattle.decide.specs.Decided.{settingsOf};
 ghost use Rattle.shape.specs.Shapes.{candidateOf, bytesOf};
 ghost use Rattle.luphwezane.specs.Exports.{Rendered, OpenedOut, TriedOut, EditedOut, ReportOut, CountOut};
@@ -82,6 +83,60 @@ pub extern "C" fn luph_raw_open(
     number
 }
 
+// MOVE; the new total goes to `total`, and the caller takes the rest of the new settings from `to`.
+#[no_mangle]
+pub extern "C" fn luph_raw_move(
+    settings: Settings,
+    to: Settings,
+    left: &[u16],
+    right: &[u16],
+    reference: &[u16],
+    leftDepths: &[u8],
+    rightDepths: &[u8],
+    leftSamples: &mut [u16],
+    leftFronts: &mut [u8],
+    leftLimits: &mut [i16],
+    leftMarks: &mut [u8],
+    rightSamples: &mut [u16],
+    rightFronts: &mut [u8],
+    rightLimits: &mut [i16],
+    rightMarks: &mut [u8],
+    combined: &mut [u16],
+    journal: &mut [u32],
+    total: &mut u64,
+) -> u32
+    ensures { λ r. ⌜ OpenedOut (MovePost settings to (planes.pictures (now (left .entry)) (now (right .entry)) (now (reference .entry))) (planes.depths (now (leftDepths .entry)) (now (rightDepths .entry)))
+        (planes.held (planes.view (now (leftSamples .entry)) (now (leftFronts .entry)) (now (leftLimits .entry)) (now (leftMarks .entry))) (planes.view (now (rightSamples .entry)) (now (rightFronts .entry)) (now (rightLimits .entry)) (now (rightMarks .entry))) (now (combined .entry)))
+        (planes.held (planes.view (now (leftSamples .exit)) (now (leftFronts .exit)) (now (leftLimits .exit)) (now (leftMarks .exit))) (planes.view (now (rightSamples .exit)) (now (rightFronts .exit)) (now (rightLimits .exit)) (now (rightMarks .exit))) (now (combined .exit))) (now (journal .entry)) (now (journal .exit))) r (now (total .entry)) (now (total .exit)) ⌝ }
+{
+    let moved = move_seat::move_seat(
+        settings,
+        to,
+        left,
+        right,
+        reference,
+        leftDepths,
+        rightDepths,
+        leftSamples,
+        leftFronts,
+        leftLimits,
+        leftMarks,
+        rightSamples,
+        rightFronts,
+        rightLimits,
+        rightMarks,
+        combined,
+        journal,
+    );
+    let refusal = moved.refusal;
+    let number = model::number(refusal);
+    if number == 0 {
+        let next = moved.settings;
+        *total = next.total;
+    }
+    number
+}
+
 // GET; the change of the total goes to `change`. The settings come field by field, the tables lent: GET is the hot call, and a copy of the tables would cost it.
 #[no_mangle]
 pub extern "C" fn luph_raw_get<'a>(
@@ -91,6 +146,8 @@ pub extern "C" fn luph_raw_get<'a>(
     rightTable: &'a [u16; 256],
     share: u8,
     tolerance: u8,
+    widestGap: u8,
+    tornDistance: u8,
     total: u64,
     left: &[u16],
     right: &[u16],
@@ -112,10 +169,14 @@ pub extern "C" fn luph_raw_get<'a>(
     bytes: &[u8],
     change: &mut i64,
 ) -> u32
-    ensures { λ r. ⌜ TriedOut (GetPost (settingsOf w h (now (leftTable .entry)) (now (rightTable .entry)) share tolerance total) (planes.pictures (now (left .entry)) (now (right .entry)) (now (reference .entry))) (planes.depths (now (leftDepths .entry)) (now (rightDepths .entry)))
+    ensures { λ r. ⌜ TriedOut (GetPost (settingsOf w h (now (leftTable .entry)) (now (rightTable .entry)) share tolerance (record { gap = widestGap; distance = tornDistance }) total) (planes.pictures (now (left .entry)) (now (right .entry)) (now (reference .entry))) (planes.depths (now (leftDepths .entry)) (now (rightDepths .entry)))
         (planes.held (planes.view (now (leftSamples .entry)) (now (leftFronts .entry)) (now (leftLimits .entry)) (now (leftMarks .entry))) (planes.view (now (rightSamples .entry)) (now (rightFronts .entry)) (now (rightLimits .entry)) (now (rightMarks .entry))) (now (combined .entry))) view block (candidateOf shape) (bytesOf shape (now (bytes .entry)))) r (now (change .entry)) (now (change .exit)) ⌝ }
 {
     let n = shape::lent(shape.kind, bytes.len());
+    let tear = Tear {
+        gap: widestGap,
+        distance: tornDistance,
+    };
     let tried = decide::decide(
         w,
         h,
@@ -123,6 +184,7 @@ pub extern "C" fn luph_raw_get<'a>(
         rightTable,
         share,
         tolerance,
+        tear,
         total,
         left,
         right,

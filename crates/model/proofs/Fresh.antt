@@ -40,12 +40,12 @@ freshTotal-total s t p d = refl
 
 -- ---- marks are 0 or 1
 
-flag-torn : (l : Line) (c t : ℕ) (b : Bool) → leb t 1 ≡ b → tornPixel l c t .mark < 2
+flag-torn : (l : Line) (c t : ℕ) (b : Bool) → leb t (l .tear .distance) ≡ b → tornPixel l c t .mark < 2
 unfolding tornPixel
 flag-torn l c t true e = rw e (omega arith)
 flag-torn l c t false e = rw e (omega arith)
 
-flag-last : (l : Line) (c t : ℕ) (b : Bool) → leb t 1 ≡ b → lastPixel l c t .mark < 2
+flag-last : (l : Line) (c t : ℕ) (b : Bool) → leb t (l .tear .distance) ≡ b → lastPixel l c t .mark < 2
 unfolding lastPixel
 flag-last l c t true e = rw e (omega arith)
 flag-last l c t false e = rw e (omega arith)
@@ -59,8 +59,8 @@ pub flag-owned : (l : Line) (c x : ℕ) → ownedPixel l c x .mark < 2
 unfolding ownedPixel pairPixel smoothPixel
 flag-owned l c x =
     let t : ℕ = x - placeIn l c in
-    bool-cases (leb (width l) (c + 1)) (λ e. rw e (flag-last l c t (leb t 1) refl))
-    (λ e. rw e (flag-kind (kindOf (subℕ (placeIn l (c + 1)) (placeIn l c))) _ (smoothPixel l c t (placeIn l (c + 1) - placeIn l c)) (tornPixel l c t) (omega arith) (omega arith) (flag-torn l c t (leb t 1) refl)))
+    bool-cases (leb (width l) (c + 1)) (λ e. rw e (flag-last l c t (leb t (l .tear .distance)) refl))
+    (λ e. rw e (flag-kind (kindOf (l .tear .gap) (subℕ (placeIn l (c + 1)) (placeIn l c))) _ (smoothPixel l c t (placeIn l (c + 1) - placeIn l c)) (tornPixel l c t) (omega arith) (omega arith) (flag-torn l c t (leb t (l .tear .distance)) refl)))
 
 pub flag-pixel : (l : Line) (p : ℕ) → pixelAt l p .mark < 2
 unfolding pixelAt shownPixel

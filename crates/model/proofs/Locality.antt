@@ -48,7 +48,7 @@ module _ (s : Settings) (p : Pictures) (d : Depths) (v : ℕ) (b : Block) (c : L
   -- a view whose row of depths stays
   row-same : (q : Bool) (y : ℕ) → rowOf (depthsOf after q) (s .w) y ≡ rowOf (depthsOf d q) (s .w) y → freshRow s p after q y ≡ freshRow s p d q y
   unfolding freshRow
-  row-same q y e = ap (λ (r : List ℕ). viewRow q (line (tableOf s q) (rowOf (textureOf p q) (s .w) y) r)) e
+  row-same q y e = ap (λ (r : List ℕ). viewRow q (line (s .tear) (tableOf s q) (rowOf (textureOf p q) (s .w) y) r)) e
 
   pub other-row : (y : ℕ) → freshRow s p after (not (isRight v)) y ≡ freshRow s p d (not (isRight v)) y
   other-row y = row-same (not (isRight v)) y (ap (λ (l : List ℕ). rowOf l (s .w) y) (written-other s v b c d))
@@ -97,7 +97,7 @@ module _ (s : Settings) (p : Pictures) (d : Depths) (v : ℕ) (b : Block) (c : L
         let mw : width m ≡ s .w = wide s p after (sized-written s v b c d sized) r y h in
         let a : ℕ = firstColumn r (s .w) (b .column) (b .width) in
         let out = not-in-span (place (tableOf s r) (seen r (rowOf (depthsOf d r) (s .w) y))) (place (tableOf s r) (seen r (rowOf (depthsOf after r) (s .w) y))) (s .w) a (a + b .width - 1) (entryOf r (s .w) x) e in
-        let q = span-pixel (tableOf s r) (seen r (rowOf (textureOf p r) (s .w) y)) (seen r (rowOf (depthsOf d r) (s .w) y)) (seen r (rowOf (depthsOf after r) (s .w) y)) a (a + b .width - 1) (entryOf r (s .w) x) (edited y h) (rw (seen-wide y h) (entry-within r (s .w) x k)) (rw (seen-wide y h) out) in
+        let q = span-pixel (s .tear) (tableOf s r) (seen r (rowOf (textureOf p r) (s .w) y)) (seen r (rowOf (depthsOf d r) (s .w) y)) (seen r (rowOf (depthsOf after r) (s .w) y)) a (a + b .width - 1) (entryOf r (s .w) x) (edited y h) (rw (seen-wide y h) (entry-within r (s .w) x k)) (rw (seen-wide y h) out) in
         shown-view r m x (rw mw k) ∙ ap (λ (n : ℕ). pixelAt (seenLine r m) (entryOf r n x)) mw ∙ q
         ∙ sym (shown-view r l x (rw lw k) ∙ ap (λ (n : ℕ). pixelAt (seenLine r l) (entryOf r n x)) lw)
 
@@ -128,7 +128,7 @@ module _ (s : Settings) (p : Pictures) (d : Depths) (v : ℕ) (b : Block) (c : L
         let a : ℕ = firstColumn r (s .w) (b .column) (b .width) in
         let far : a + b .width ≤ entryOf r (s .w) x = ltb-false _ _ e in
         getD-view-limits r m x (rw mw k) ∙ ap (λ (n : ℕ). limitAt (seenLine r m) (entryOf r n x)) mw
-        ∙ span-limit (tableOf s r) (seen r (rowOf (textureOf p r) (s .w) y)) (seen r (rowOf (depthsOf d r) (s .w) y)) (seen r (rowOf (depthsOf after r) (s .w) y)) a (a + b .width - 1) (entryOf r (s .w) x) (edited y h) (omega (arith, columns .some))
+        ∙ span-limit (s .tear) (tableOf s r) (seen r (rowOf (textureOf p r) (s .w) y)) (seen r (rowOf (depthsOf d r) (s .w) y)) (seen r (rowOf (depthsOf after r) (s .w) y)) a (a + b .width - 1) (entryOf r (s .w) x) (edited y h) (omega (arith, columns .some))
         ∙ sym (getD-view-limits r l x (rw lw k) ∙ ap (λ (n : ℕ). limitAt (seenLine r l) (entryOf r n x)) lw)
 
     pub limits-stay : (y x : ℕ) → y < s .h → x < s .w → (inRows b y && limitMoves s (isRight v) b x) ≡ false → getD (freshRow s p after (isRight v) y .limits) x (pos 0) ≡ getD (freshRow s p d (isRight v) y .limits) x (pos 0)

@@ -15,6 +15,7 @@ use lib.ListN.{length, getD}
 use lib.Dec.{leb, eqb}
 use lib.IntN.{ℤ, pos, _+ℤ_, _-ℤ_, +ℤ-comm, -ℤ-+ℤ-cancel}
 use borrow.Author.Tests.{le-leb, leb-true, eq-eqb, eqb-true, eqb-false}
+use Rattle.model.specs.declared.Tear.{Tear}
 use Rattle.model.specs.declared.Settings.{Settings}
 use Rattle.model.specs.declared.Block.{Block}
 use Rattle.model.specs.declared.Split.the-variants.{Line, Mask}
@@ -24,7 +25,7 @@ use Rattle.model.specs.Marks.{markBytes}
 use Rattle.model.specs.Combined.{worst}
 use Rattle.model.specs.Planes.{Pictures, Depths, View, Held, area, withTotal}
 use Rattle.model.specs.Candidates.{positions, lineOk}
-use Rattle.model.specs.Refusals.{unless, sideOk, sizeOk, picturesSized, depthsSized, viewSized, heldSized, planesSized, upTo, tableOk, tablesOk, shareOk, blockOk, viewOk, candidateThen, within, inRange, wordsOk, journalOk, roomOk, someRecord, picturesOk, commonThen, ownThen, savingThen, takingThen, openNumber, earlyNumber, callThen}
+use Rattle.model.specs.Refusals.{unless, sideOk, sizeOk, picturesSized, depthsSized, viewSized, heldSized, planesSized, upTo, tableOk, tablesOk, shareOk, tearOk, blockOk, viewOk, candidateThen, within, inRange, journalOk, roomOk, someRecord, commonThen, ownThen, savingThen, takingThen, openNumber, earlyNumber, callThen}
 use Rattle.model.proofs.Choice.{bool-cases, and-true, and-left, and-right}
 use Rattle.model.proofs.Fresh.{DepthsOf}
 
@@ -205,6 +206,25 @@ pub tables-yes : (s : Settings) → Tables s → tablesOk s ≡ true
 unfolding tablesOk
 tables-yes s h = and-true _ _ (table-yes (s .left) (h .left)) (table-yes (s .right) (h .right))
 
+pub record TearIn (e : Tear) : Type 0 where
+  pub least : 4 ≤ e .gap
+  pub most : e .gap ≤ 64
+  pub near : e .distance ≤ 3
+
+pub tear-yes : (e : Tear) → TearIn e → tearOk e ≡ true
+unfolding tearOk
+tear-yes e h = rw (le-leb 4 (e .gap) (h .least), le-leb (e .gap) 64 (h .most), le-leb (e .distance) 3 (h .near))
+
+pub tear-facts : (e : Tear) → tearOk e ≡ true → TearIn e
+unfolding tearOk
+tear-facts e h =
+    let g = and-left (leb 4 (e .gap) && leb (e .gap) 64) _ h in
+    record {
+      least = leb-true 4 _ (and-left (leb 4 (e .gap)) _ g);
+      most = leb-true _ 64 (and-right (leb 4 (e .gap)) _ g);
+      near = leb-true _ 3 (and-right (leb 4 (e .gap) && leb (e .gap) 64) (leb (e .distance) 3) h);
+    }
+
 pub record Inside (s : Settings) (b : Block) : Type 0 where
   pub width : 1 ≤ b .width
   pub right : b .column + b .width ≤ s .w
@@ -243,6 +263,7 @@ pub record Common (s : Settings) (p : Pictures) (d : Depths) (h : Held) : Type 0
   pub held : HeldOf (area s) (markBytes (s .w) * s .h) h
   pub tables : Tables s
   pub share : s .share ≤ 64
+  pub tear : TearIn (s .tear)
 
 pub common-facts : (s : Settings) (p : Pictures) (d : Depths) (h : Held) → commonThen s p d h 0 ≡ 0 → Common s p d h
 unfolding commonThen planesSized
@@ -250,6 +271,7 @@ common-facts s p d h e =
     let e₁ = unless-rest (sizeOk s) 0 _ e in
     let e₂ = unless-rest (planesSized s p d h) 1 _ e₁ in
     let e₃ = unless-rest (tablesOk s) 2 _ e₂ in
+    let e₄ = unless-rest (shareOk s) 3 _ e₃ in
     let z = unless-true (planesSized s p d h) 1 _ e₁ in
     let y = and-right (picturesSized (area s) p) _ z in
     record {
@@ -259,12 +281,13 @@ common-facts s p d h e =
       held = held-facts (area s) (markBytes (s .w) * s .h) h (and-right (depthsSized (area s) d) _ y);
       tables = tables-facts s (unless-true (tablesOk s) 2 _ e₂);
       share = leb-true (s .share) 64 (unless-true (shareOk s) 3 _ e₃);
+      tear = tear-facts (s .tear) (unless-true (tearOk (s .tear)) 19 _ e₄);
     }
 
 pub common-yes : (s : Settings) (p : Pictures) (d : Depths) (h : Held) (rest : ℕ) → Common s p d h → commonThen s p d h rest ≡ rest
 unfolding commonThen planesSized
 common-yes s p d h rest f =
-    rw (size-yes s (f .size), pictures-yes (area s) p (f .pictures), depths-yes (area s) d (f .depths), held-yes (area s) (markBytes (s .w) * s .h) h (f .held), tables-yes s (f .tables), le-leb (s .share) 64 (f .share))
+    rw (size-yes s (f .size), pictures-yes (area s) p (f .pictures), depths-yes (area s) d (f .depths), held-yes (area s) (markBytes (s .w) * s .h) h (f .held), tables-yes s (f .tables), le-leb (s .share) 64 (f .share), tear-yes (s .tear) (f .tear))
 
 -- ---- a call's own tests
 
@@ -303,7 +326,7 @@ own-facts s v b c n e =
 pub common-before : (s : Settings) (p : Pictures) (d : Depths) (h : Held) → Before (commonThen s p d h)
 unfolding commonThen
 common-before s p d h =
-    one-before (sizeOk s) 0 _ (one-before (planesSized s p d h) 1 _ (one-before (tablesOk s) 2 _ (one-before (shareOk s) 3 _ none-before)))
+    one-before (sizeOk s) 0 _ (one-before (planesSized s p d h) 1 _ (one-before (tablesOk s) 2 _ (one-before (shareOk s) 3 _ (one-before (tearOk (s .tear)) 19 _ none-before))))
 
 pub candidate-before : (b : Block) (c : Candidate) (n : ℕ) → Before (candidateThen b c n)
 unfolding candidateThen

@@ -13,6 +13,7 @@ use native.Mathlib.Omega.{arith}
 use lib.Dec.{leb, ltb}
 use lib.ListN.{length, getD}
 use borrow.Author.Tests.{leb-false, ltb-false}
+use Rattle.model.specs.declared.Tear.{Tear}
 use Rattle.model.specs.Row.{line, place, owner, limit, least, quarter, signed, limitAt, pixelAt, ownedPixel, lastPixel, pairPixel, smoothPixel, tornPixel}
 use Rattle.model.specs.Span.{leastEdited, spanLow, spanHigh, inSpan}
 use Rattle.model.proofs.Choice.{lt-or-le, and-false}
@@ -107,9 +108,9 @@ edited-moved t d e a b h =
 
 -- A column apart from the edit shows the same wherever it owns. A filter reads samples of eight columns, some of which the edit may move, but of depths those of
 -- the pair alone: the samples s are the same before and after.
-pub apart-same : (t s d e : List ℕ) (a b c x : ℕ) → EditedRow d e a b → Apart a b c → ownedPixel (line t s e) c x ≡ ownedPixel (line t s d) c x
+pub apart-same : (tear : Tear) (t s d e : List ℕ) (a b c x : ℕ) → EditedRow d e a b → Apart a b c → ownedPixel (line tear t s e) c x ≡ ownedPixel (line tear t s d) c x
 unfolding ownedPixel lastPixel pairPixel smoothPixel tornPixel
-apart-same t s d e a b c x h o =
+apart-same tear t s d e a b c x h o =
     let here : getD e c 0 ≡ getD d c 0 = ⊎-elim (λ k. h .under c (omega arith)) (λ k. h .beyond c k) o in
     let next : getD e (c + 1) 0 ≡ getD d (c + 1) 0 = ⊎-elim (λ k. h .under (c + 1) k) (λ k. h .beyond (c + 1) (omega arith)) o in
     let m = edited-moved t d e a b h in
@@ -118,17 +119,17 @@ apart-same t s d e a b c x h o =
     simp (p, q, here, next, h .same)
 
 -- so what follows from two such owners is the same
-owners-same : (t s d e : List ℕ) (a b c o x : ℕ) → EditedRow d e a b → Apart a b c → Apart a b o → byOwners (line t s e) c o x ≡ byOwners (line t s d) c o x
+owners-same : (tear : Tear) (t s d e : List ℕ) (a b c o x : ℕ) → EditedRow d e a b → Apart a b c → Apart a b o → byOwners (line tear t s e) c o x ≡ byOwners (line tear t s d) c o x
 unfolding byOwners
-owners-same t s d e a b c o x h apart far =
+owners-same tear t s d e a b c o x h apart far =
     let m = edited-moved t d e a b h in
     let next : place t e (c + 1) ≡ place t d (c + 1) = ⊎-elim (λ k. m .under (c + 1) k) (λ k. m .beyond (c + 1) (omega arith)) apart in
     let front : getD e o 0 ≡ getD d o 0 = ⊎-elim (λ k. h .under o (omega arith)) (λ k. h .beyond o k) far in
-    rw (next, front, apart-same t s d e a b c x h apart)
+    rw (next, front, apart-same tear t s d e a b c x h apart)
 
-pub span-pixel : (t s d e : List ℕ) (a b p : ℕ) → EditedRow d e a b → p < length d → Outside (place t d) (place t e) (length d) a b (quarter p) → pixelAt (line t s e) p ≡ pixelAt (line t s d) p
+pub span-pixel : (tear : Tear) (t s d e : List ℕ) (a b p : ℕ) → EditedRow d e a b → p < length d → Outside (place t d) (place t e) (length d) a b (quarter p) → pixelAt (line tear t s e) p ≡ pixelAt (line tear t s d) p
 unfolding pixelAt spanLow
-span-pixel t s d e a b p h k out =
+span-pixel tear t s d e a b p h k out =
     let f = place t d in
     let g = place t e in
     let m = edited-moved t d e a b h in
@@ -140,10 +141,10 @@ span-pixel t s d e a b p h k out =
     let ro = apart-owns m oo (omega arith) (⊎-elim (λ u. inl (omega arith)) (λ u. inr (omega arith)) out) in
     let same : owner g (quarter p) (length d) ≡ c = owner-is g (quarter p) (length d) c (place-zero t e p) (rc .0) in
     rw (h .same, same)
-    (near-owners (line t s e) (quarter p) c o (rw (h .same) (omega arith)) (rw (h .same) (rc .0)) (rw (h .same) (ro .0))
-    ∙ owners-same t s d e a b c o (quarter p) h (rc .1) (ro .1)
-    ∙ sym (near-owners (line t s d) (quarter p) c o (omega arith) oc oo))
+    (near-owners (line tear t s e) (quarter p) c o (rw (h .same) (omega arith)) (rw (h .same) (rc .0)) (rw (h .same) (ro .0))
+    ∙ owners-same tear t s d e a b c o (quarter p) h (rc .1) (ro .1)
+    ∙ sym (near-owners (line tear t s d) (quarter p) c o (omega arith) oc oo))
 
-pub span-limit : (t s d e : List ℕ) (a b c : ℕ) → EditedRow d e a b → b < c → limitAt (line t s e) c ≡ limitAt (line t s d) c
+pub span-limit : (tear : Tear) (t s d e : List ℕ) (a b c : ℕ) → EditedRow d e a b → b < c → limitAt (line tear t s e) c ≡ limitAt (line tear t s d) c
 unfolding limitAt
-span-limit t s d e a b c h k = rw (h .same) (ap signed (moved-limit (edited-moved t d e a b h) c k))
+span-limit tear t s d e a b c h k = rw (h .same) (ap signed (moved-limit (edited-moved t d e a b h) c k))

@@ -5,28 +5,27 @@
 use Prim.Native.Nat.{ℕ, _+_, _-_, _*_, _<_, _≤_}
 use mathlib.Core.Path.{_≡_, sym, ap, subst, _∙_}
 use mathlib.Core.Bool.{Bool, true, false}
-use mathlib.Core.Logic.{⊎-elim}
 use mathlib.Core.List.{List}
 use native.Mathlib.Omega.{arith}
 use native.Mathlib.Nat.{mul-comm, mul-le-mul, mul-le-mul-right, mul-assoc}
 use lib.Dec.{leb, ltb, eqb}
-use lib.ListN.{length, getD, drop, length-take, List·getD-eq-default}
+use lib.ListN.{getD}
 use lib.IntN.{ℤ, pos, negsuc, subℕ, _+ℤ_}
 use lib.Signed.{shrZ}
 use Rattle.model.specs.declared.Settings.{Settings}
 use Rattle.model.specs.declared.Kind.{Kind}
 use Rattle.model.specs.declared.Kind.the-variants.{Hidden, Smooth, Torn}
 use Rattle.model.specs.declared.Pixel.{Pixel}
-use Rattle.model.specs.Lists.{rowOf, sumTo}
+use Rattle.model.specs.Lists.{sumTo}
 use Rattle.model.specs.Row.{Line, width, placeIn, owner, quarter, kindOf, greatest, read, sampleIn, taps1, taps2, taps3, weighted, clipped, filtered, mixed, byKind, pixelAt, shownPixel, nearEdge, ownedPixel, pairPixel, smoothPixel, tornPixel, lastPixel}
-use Rattle.model.specs.Views.{seen, entryOf}
+use Rattle.model.specs.Views.{entryOf}
 use Rattle.model.specs.Combined.{worst, apart, shared, bothShown, bothHoles, combinedOf, squareError}
-use Rattle.model.specs.Planes.{Pictures, Depths, area, textureOf}
+use Rattle.model.specs.Planes.{Pictures, Depths, area}
 use Rattle.model.specs.Fresh.{lineOf, freshRow, shownAt, freshSample, freshCombined, totalOf, freshTotal}
-use Rattle.model.proofs.Choice.{bool-cases, lt-or-le}
+use Rattle.model.proofs.Choice.{bool-cases}
 use Rattle.model.proofs.Lists.{getD-listOf, getD-row}
 use Rattle.model.proofs.Sums.{sum-same, sum-rows, sum-most}
-use Rattle.model.proofs.Views.{seenLine, length-seen, getD-seen, shown-view}
+use Rattle.model.proofs.Views.{seenLine, shown-view}
 use Rattle.model.proofs.Fresh.{DepthsSized, wide, row-fresh-combined}
 
 -- the squared error at column x of row y
@@ -91,11 +90,11 @@ unfolding ownedPixel pairPixel smoothPixel tornPixel lastPixel
 owned-most l x c =
     let here = sampleIn-most (l .texture) c in
     bool-cases (leb (width l) (c + 1))
-    (λ e. rw e (bool-cases (leb (x - placeIn l c) 1) (λ q. rw q here) (λ q. rw q here)))
+    (λ e. rw e (bool-cases (leb (x - placeIn l c) (l .tear .distance)) (λ q. rw q here) (λ q. rw q here)))
     (λ e. rw e
-    (kind-most (kindOf (subℕ (placeIn l (c + 1)) (placeIn l c))) _ (smoothPixel l c (x - placeIn l c) (placeIn l (c + 1) - placeIn l c)) (tornPixel l c (x - placeIn l c)) here
+    (kind-most (kindOf (l .tear .gap) (subℕ (placeIn l (c + 1)) (placeIn l c))) _ (smoothPixel l c (x - placeIn l c) (placeIn l (c + 1) - placeIn l c)) (tornPixel l c (x - placeIn l c)) here
     (mixed-most (l .texture) c _)
-    (bool-cases (leb (x - placeIn l c) 1) (λ q. rw q here) (λ q. rw q (sampleIn-most (l .texture) (c + 1))))))
+    (bool-cases (leb (x - placeIn l c) (l .tear .distance)) (λ q. rw q here) (λ q. rw q (sampleIn-most (l .texture) (c + 1))))))
 
 pub pixel-most : (l : Line) (p : ℕ) → pixelAt l p .sample ≤ greatest
 unfolding pixelAt shownPixel

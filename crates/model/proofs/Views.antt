@@ -96,7 +96,7 @@ module _ {A : Type 0} where
 
 -- a row as the view reads it
 abbrev pub seenLine : Bool → Line → Line
-seenLine r l = line (l .table) (seen r (l .texture)) (seen r (l .depths))
+seenLine r l = line (l .tear) (l .table) (seen r (l .texture)) (seen r (l .depths))
 
 module _ (r : Bool) (l : Line) where
   wide : width (seenLine r l) ≡ width l

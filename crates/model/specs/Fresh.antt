@@ -15,7 +15,7 @@ use Rattle.model.specs.Planes.{Pictures, Depths, View, Held, Strip, view
 
 -- what row y of a view is drawn from
 abbrev pub lineOf : Settings → Pictures → Depths → Bool → ℕ → Line
-lineOf s p d right y = line (tableOf s right) (rowOf (textureOf p right) (s .w) y) (rowOf (depthsOf d right) (s .w) y)
+lineOf s p d right y = line (s .tear) (tableOf s right) (rowOf (textureOf p right) (s .w) y) (rowOf (depthsOf d right) (s .w) y)
 
 -- row y of a view
 unfoldable pub freshRow : Settings → Pictures → Depths → Bool → ℕ → Row

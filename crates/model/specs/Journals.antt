@@ -62,6 +62,6 @@ saved j v b old =
 abbrev pub takenBack : List ℕ → List ℕ
 takenBack j = withNewest (indexBefore j (newest j)) j
 
--- OPEN empties the journal.
+-- OPEN and MOVE empty the journal.
 abbrev pub emptied : List ℕ → List ℕ
 emptied j = withNewest 0 j

@@ -66,10 +66,18 @@ strip samples marks fronts = record { samples = samples; marks = marks; fronts =
 -- the settings with another total
 abbrev pub withTotal : Settings → ℕ → Settings
 withTotal s t =
-    record { w = s .w; h = s .h; left = s .left; right = s .right; share = s .share; tolerance = s .tolerance; total = t }
+    record { w = s .w; h = s .h; left = s .left; right = s .right; share = s .share; tolerance = s .tolerance; tear = s .tear; total = t }
+
+-- Document 02, card 11: what MOVE draws with. Tables, share, tolerance and where rows tear are new; w and h stay, and so do the textures.
+abbrev pub withSeat : Settings → Settings → Settings
+withSeat s to =
+    record { w = s .w; h = s .h; left = to .left; right = to .right; share = to .share; tolerance = to .tolerance; tear = to .tear; total = s .total }
+
+abbrev pub withReference : Pictures → List ℕ → Pictures
+withReference p reference = pictures (p .left) (p .right) reference
 
 -- Document 02, card 12: a plane of samples as it is read, and what is held as GET, SET and TAKE BACK read it. Where no sample is above the greatest, as in
--- what OPEN and SET make, that is what stands there (proofs/Readings).
+-- what the calls make, that is what stands there (proofs/Readings).
 unfoldable pub readAll : List ℕ → List ℕ
 readAll l = listOf (sampleIn l) (length l)
 

@@ -18,7 +18,7 @@ use Rattle.model.specs.declared.Count.the-variants.{Holes}
 use Rattle.model.specs.Row.{line}
 use Rattle.model.specs.Views.{isRight, viewRow}
 use Rattle.model.specs.Marks.{holesIn}
-use Rattle.model.specs.Planes.{Pictures, Depths, Held, Strip, withTotal, tableOf, readHeld, heldRow}
+use Rattle.model.specs.Planes.{Pictures, Depths, Held, Strip, withTotal, withSeat, tableOf, readHeld, heldRow}
 use Rattle.model.specs.Fresh.{stripOf, fresh, freshTotal}
 use Rattle.model.specs.Candidates.{filled}
 use Rattle.model.specs.Blocks.{inRows, written, oldDepths, changeOf}
@@ -30,25 +30,35 @@ use Rattle.model.specs.Refusals.{numberOf, reportNumber, countNumber, op
 pub record RenderPost (s : Settings) (v : ℕ) (texture depths : List ℕ) (x₀ x : Strip) (r : Refusal) : Type 0 where
   pub number : numberOf r ≡ renderNumber s v texture depths x₀
   pub refused : (numberOf r ≡ 0 → ⊥) → x ≡ x₀
-  pub drawn : numberOf r ≡ 0 → x ≡ stripOf (s .w) (viewRow (isRight v) (line (tableOf s (isRight v)) texture depths))
+  pub drawn : numberOf r ≡ 0 → x ≡ stripOf (s .w) (viewRow (isRight v) (line (s .tear) (tableOf s (isRight v)) texture depths))
 
 -- Depths are 8-bit planes, as document 01 has them: of the planes that a call is lent this holds by their type.
 pub record EightBit (d : Depths) : Type 0 where
   pub left : (i : ℕ) → getD (d .left) i 0 ≤ 255
   pub right : (i : ℕ) → getD (d .right) i 0 ≤ 255
 
--- OPEN fills all held planes, empties the journal and answers the settings with the total. h₀ is what is held at entry, h at exit; j₀ and j are the journal.
-pub record OpenPost (s : Settings) (p : Pictures) (d : Depths) (h₀ h : Held) (j₀ j : List ℕ) (r : Opened) : Type 0 where
-  pub number : numberOf (r .refusal) ≡ openNumber s p d h₀ j₀
+-- What OPEN and MOVE have in common: all held planes are filled by a drawing with the settings n, the journal is emptied, and n with the total is answered; or
+-- nothing is changed, and s is answered. h₀ is what is held at entry, h at exit; j₀ and j are the journal.
+pub record FillPost (s n : Settings) (p : Pictures) (d : Depths) (h₀ h : Held) (j₀ j : List ℕ) (r : Opened) : Type 0 where
+  pub number : numberOf (r .refusal) ≡ openNumber n p d h₀ j₀
   pub refused-held : (numberOf (r .refusal) ≡ 0 → ⊥) → h ≡ h₀
   pub refused-journal : (numberOf (r .refusal) ≡ 0 → ⊥) → j ≡ j₀
   pub refused-settings : (numberOf (r .refusal) ≡ 0 → ⊥) → r .settings ≡ s
-  pub held : numberOf (r .refusal) ≡ 0 → h ≡ fresh s p d
+  pub held : numberOf (r .refusal) ≡ 0 → h ≡ fresh n p d
   pub journal : numberOf (r .refusal) ≡ 0 → j ≡ emptied j₀
-  pub settings : numberOf (r .refusal) ≡ 0 → r .settings ≡ withTotal s (freshTotal s p d)
+  pub settings : numberOf (r .refusal) ≡ 0 → r .settings ≡ withTotal n (freshTotal n p d)
   pub eight-bit : EightBit d
 
--- Held planes and total that are those of the fresh drawing: what OPEN and SET make.
+-- OPEN draws with the settings it is passed.
+abbrev pub OpenPost : Settings → Pictures → Depths → Held → Held → List ℕ → List ℕ → Opened → Type 0
+OpenPost s = FillPost s s
+
+-- MOVE draws the present depths with the tables, share, tolerance and numbers of `to`, and measures against the reference among p (document 02, card 11). The depths
+-- are lent for reading.
+abbrev pub MovePost : Settings → Settings → Pictures → Depths → Held → Held → List ℕ → List ℕ → Opened → Type 0
+MovePost s to = FillPost s (withSeat s to)
+
+-- Held planes and total that are those of the fresh drawing: what OPEN, SET, TAKE BACK and MOVE make.
 pub record Sound (s : Settings) (p : Pictures) (d : Depths) (h : Held) : Type 0 where
   pub held : h ≡ fresh s p d
   pub total : s .total ≡ freshTotal s p d

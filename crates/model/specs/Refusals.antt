@@ -5,6 +5,7 @@ use mathlib.Core.List.{List, [], _∷_}
 use lib.IntN.{ℤ, pos, negsuc, _+ℤ_}
 use lib.ListN.{length}
 use lib.Dec.{leb, ltb, eqb}
+use Rattle.model.specs.declared.Tear.{Tear}
 use Rattle.model.specs.declared.Settings.{Settings}
 use Rattle.model.specs.declared.Block.{Block}
 use Rattle.model.specs.declared.Refusal.{Refusal}
@@ -37,6 +38,7 @@ numberOf Refusal.NothingToTakeBack = 12
 numberOf Refusal.Journal = 13
 numberOf Refusal.Line = 14
 numberOf Refusal.Mask = 15
+numberOf Refusal.Gap = 20
 numberOf Refusal.Sample = 21
 
 -- the same of what CHECK answers, and of what HOLES answers
@@ -96,6 +98,10 @@ tablesOk s = tableOk (s .left) && tableOk (s .right)
 abbrev pub shareOk : Settings → Bool
 shareOk s = leb (s .share) 64
 
+-- 20: the widest gap outside 4 to 64, or the distance above 3
+unfoldable pub tearOk : Tear → Bool
+tearOk e = (leb 4 (e .gap) && leb (e .gap) 64) && leb (e .distance) 3
+
 -- 5: block of zero width or height, or reaching past an edge
 unfoldable pub blockOk : Settings → Block → Bool
 blockOk s b =
@@ -153,9 +159,10 @@ pictureOk p = upTo greatest p
 unfoldable pub picturesOk : Pictures → Bool
 picturesOk p = pictureOk (p .left) && (pictureOk (p .right) && pictureOk (p .reference))
 
--- 1, 2, 3, 4, then the rest of the call's list
+-- 1, 2, 3, 4, 20, then the rest of the call's list
 unfoldable pub commonThen : Settings → Pictures → Depths → Held → ℕ → ℕ
-commonThen s p d h rest = unless (sizeOk s) 1 (unless (planesSized s p d h) 2 (unless (tablesOk s) 3 (unless (shareOk s) 4 rest)))
+commonThen s p d h rest =
+    unless (sizeOk s) 1 (unless (planesSized s p d h) 2 (unless (tablesOk s) 3 (unless (shareOk s) 4 (unless (tearOk (s .tear)) 20 rest))))
 
 -- 6, 5, the candidate's own number, then the rest; n is the number of bytes lent with the candidate
 unfoldable pub ownThen : Settings → ℕ → Block → Candidate → ℕ → ℕ → ℕ
@@ -169,15 +176,15 @@ savingThen s b j rest = unless (journalOk s j) 13 (unless (roomOk b j) 11 rest)
 unfoldable pub takingThen : Settings → List ℕ → ℕ → ℕ
 takingThen s j rest = unless (journalOk s j) 13 (unless (someRecord j) 12 rest)
 
--- OPEN refuses 1, 2, 3, 4, 13 for a journal of no words, then 21.
+-- OPEN refuses 1, 2, 3, 4, 20, 13 for a journal of no words, then 21; MOVE the same, judged with its settings and its reference.
 abbrev pub openNumber : Settings → Pictures → Depths → Held → List ℕ → ℕ
 openNumber s p d h j = commonThen s p d h (unless (wordsOk j) 13 (unless (picturesOk p) 21 0))
 
--- CHECK refuses 1, 2, 3, 4.
+-- CHECK refuses 1, 2, 3, 4, 20.
 abbrev pub checkNumber : Settings → Pictures → Depths → Held → ℕ
 checkNumber s p d h = commonThen s p d h 0
 
--- GET and SET refuse 1, 2, 3, 4, 6, 5, by the candidate's kind 7, 14 or 15, then 8, which is judged by the change that was found; SET has the rest of its list.
+-- GET and SET refuse 1, 2, 3, 4, 20, 6, 5, by the candidate's kind 7, 14 or 15, then 8, which is judged by the change that was found; SET has the rest of its list.
 abbrev pub callThen : Settings → Pictures → Depths → Held → ℕ → Block → Candidate → ℕ → ℤ → ℕ → ℕ
 callThen s p d h v b c n change rest = commonThen s p d h (ownThen s v b c n (unless (inRange s change) 8 rest))
 
@@ -192,14 +199,14 @@ setNumber s p d h j v b c n change = callThen s p d h v b c n change (savingThen
 abbrev pub earlyNumber : Settings → Pictures → Depths → Held → ℕ → Block → Candidate → ℕ → ℕ
 earlyNumber s p d h v b c n = commonThen s p d h (ownThen s v b c n 0)
 
--- TAKE BACK refuses 1, 2, 3, 4, 13, 12, then 8, and before 8 the same.
+-- TAKE BACK refuses 1, 2, 3, 4, 20, 13, 12, then 8, and before 8 the same.
 abbrev pub takeBackNumber : Settings → Pictures → Depths → Held → List ℕ → ℤ → ℕ
 takeBackNumber s p d h j change = commonThen s p d h (takingThen s j (unless (inRange s change) 8 0))
 
 abbrev pub takeBackEarly : Settings → Pictures → Depths → Held → List ℕ → ℕ
 takeBackEarly s p d h j = commonThen s p d h (takingThen s j 0)
 
--- RENDER refuses 1, 2, 3, then 6; h is not tested.
+-- RENDER refuses 1, 2, 3, 20, then 6; h is not tested.
 unfoldable pub stripSized : ℕ → List ℕ → List ℕ → Strip → Bool
 stripSized w texture depths x =
     (eqb (length texture) w && eqb (length depths) w)
@@ -207,7 +214,8 @@ stripSized w texture depths x =
 
 unfoldable pub renderNumber : Settings → ℕ → List ℕ → List ℕ → Strip → ℕ
 renderNumber s v texture depths x =
-    unless (sideOk (s .w)) 1 (unless (stripSized (s .w) texture depths x) 2 (unless (tablesOk s) 3 (unless (viewOk v) 6 0)))
+    unless (sideOk (s .w)) 1
+    (unless (stripSized (s .w) texture depths x) 2 (unless (tablesOk s) 3 (unless (tearOk (s .tear)) 20 (unless (viewOk v) 6 0))))
 
 -- HOLES refuses 1, 2, then 6.
 unfoldable pub holesNumber : Settings → ℕ → List ℕ → List ℕ → ℕ

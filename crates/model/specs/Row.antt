@@ -1,4 +1,5 @@
--- Document 01, "One row of the left view", with the filter of document 02, card 2, the near edges of card 7 and the ten bits of card 12.
+-- Document 01, "One row of the left view", with the filter of document 02, card 2, the near edges of card 7, the two numbers of card 11 and the
+-- ten bits of card 12.
 --
 -- A place, 4 × c − table[d] in quarters, may be as low as −1,023. Here every number of quarters is kept as a natural number,
 -- raised by 1,024, and `signed` takes that away again. The laws of proofs/Signs show that nothing is lost by it:
@@ -16,16 +17,18 @@ use lib.Signed.{ltZ, shrZ}
 use Rattle.model.specs.declared.Kind.{Kind}
 use Rattle.model.specs.declared.Kind.the-variants.{Hidden, Smooth, Torn}
 use Rattle.model.specs.declared.Pixel.{Pixel}
+use Rattle.model.specs.declared.Tear.{Tear}
 use Rattle.model.specs.Lists.{listOf}
 
--- What a row is drawn from: a table of disparities, a row of texture samples, a row of depths.
+-- What a row is drawn from: where it tears, a table of disparities, a row of texture samples, a row of depths.
 pub record Line : Type 0 where
+  pub tear : Tear
   pub table : List ℕ
   pub texture : List ℕ
   pub depths : List ℕ
 
-abbrev pub line : List ℕ → List ℕ → List ℕ → Line
-line t s d = record { table = t; texture = s; depths = d }
+abbrev pub line : Tear → List ℕ → List ℕ → List ℕ → Line
+line e t s d = record { tear = e; table = t; texture = s; depths = d }
 
 -- w, the number of its columns
 abbrev pub width : Line → ℕ
@@ -63,9 +66,9 @@ unfoldable pub owner : (ℕ → ℕ) → ℕ → ℕ → ℕ
 owner f x zero = 0
 owner f x (suc n) = cond (leb (f n) x) n (owner f x n)
 
--- The kind of a pair follows from its gap: 0 or less is hidden; 1 to 8 is smooth; 9 and more is torn.
-unfoldable pub kindOf : ℤ → Kind
-kindOf gap = cond (ltZ gap (pos 1)) Hidden (cond (ltZ gap (pos 9)) Smooth Torn)
+-- The kind of a pair follows from its gap: 0 or less is hidden; 1 to the widest gap is smooth; more is torn (document 02, card 11).
+unfoldable pub kindOf : ℕ → ℤ → Kind
+kindOf widest gap = cond (ltZ gap (pos 1)) Hidden (cond (ltZ (pos widest) gap) Torn Smooth)
 
 -- k = (8 × t + gap) div (2 × gap), from 0 to 4
 unfoldable pub stepOf : ℕ → ℕ → ℕ
@@ -138,13 +141,13 @@ plain l c mark = pixel (sampleIn (l .texture) c) mark (getD (l .depths) c 0)
 unfoldable pub smoothPixel : Line → ℕ → ℕ → ℕ → Pixel
 smoothPixel l c t gap = pixel (mixed (l .texture) c (stepOf t gap)) 0 (getD (l .depths) c 0)
 
--- Torn, t at most 1: s[c], mark 0, d[c]. Torn, t of 2 or more: s[c + 1], mark 1, d[c + 1].
+-- Torn, t at most the distance (card 11): s[c], mark 0, d[c]. Torn, t of more: s[c + 1], mark 1, d[c + 1].
 unfoldable pub tornPixel : Line → ℕ → ℕ → Pixel
-tornPixel l c t = cond (leb t 1) (plain l c 0) (plain l (c + 1) 1)
+tornPixel l c t = cond (leb t (l .tear .distance)) (plain l c 0) (plain l (c + 1) 1)
 
--- Last column: s[c] and d[c]; mark 0 if t is at most 1, else 1.
+-- Last column: s[c] and d[c]; mark 0 if t is at most the distance, else 1.
 unfoldable pub lastPixel : Line → ℕ → ℕ → Pixel
-lastPixel l c t = cond (leb t 1) (plain l c 0) (plain l c 1)
+lastPixel l c t = cond (leb t (l .tear .distance)) (plain l c 0) (plain l c 1)
 
 -- A hidden pair owns nothing, so its case shows nowhere.
 abbrev pub byKind : Kind → Pixel → Pixel → Pixel → Pixel
@@ -155,7 +158,7 @@ byKind Torn hidden smooth torn = torn
 -- what the pair of columns c and c + 1 shows at t
 unfoldable pub pairPixel : Line → ℕ → ℕ → Pixel
 pairPixel l c t =
-    byKind (kindOf (subℕ (placeIn l (c + 1)) (placeIn l c)))
+    byKind (kindOf (l .tear .gap) (subℕ (placeIn l (c + 1)) (placeIn l c)))
     (plain l c 0)
     (smoothPixel l c t (placeIn l (c + 1) - placeIn l c))
     (tornPixel l c t)

@@ -17,7 +17,7 @@ seen false l = l
 -- The right view is this same rule over the row read backwards, its results written back in reverse.
 unfoldable pub viewRow : Bool → Line → Row
 viewRow right l =
-    let r = leftRow (line (l .table) (seen right (l .texture)) (seen right (l .depths))) in
+    let r = leftRow (line (l .tear) (l .table) (seen right (l .texture)) (seen right (l .depths))) in
     record { samples = seen right (r .samples); marks = seen right (r .marks); fronts = seen right (r .fronts); limits = seen right (r .limits) }
 
 -- Entry i of a row of w is position, or column, `entryOf` of it as the view reads the row, and the other way round.

@@ -5,6 +5,14 @@ ghost use lib.ListN.{length};
 ghost use Rattle.model.specs.Row.{greatest, read, sampleIn};
 ghost use Rattle.model.specs.Refusals.{numberOf};
 
+// Where neighbouring columns tear apart, in quarter samples: the widest gap of a smooth pair, and how far past its column a torn pair, or the last column,
+// still shows that column.
+#[repr(C)]
+pub struct Tear {
+    pub gap: u8,
+    pub distance: u8,
+}
+
 // The settings of a session, passed and answered by value. `left` and `right` are the two tables of disparities in quarter samples.
 #[repr(C)]
 pub struct Settings {
@@ -14,6 +22,7 @@ pub struct Settings {
     pub right: [u16; 256],
     pub share: u8,
     pub tolerance: u8,
+    pub tear: Tear,
     pub total: u64,
 }
 
@@ -79,10 +88,11 @@ pub enum Refusal {
     Journal,
     Line,
     Mask,
+    Gap,
     Sample,
 }
 
-// What OPEN answers.
+// What OPEN and MOVE answer.
 pub struct Opened {
     pub refusal: Refusal,
     pub settings: Settings,
@@ -134,6 +144,7 @@ pub fn number(refusal: Refusal) -> u32
         Refusal::Journal => 13,
         Refusal::Line => 14,
         Refusal::Mask => 15,
+        Refusal::Gap => 20,
         Refusal::Sample => 21,
     }
 }

@@ -46,7 +46,7 @@ planes-right s p d g c =
       marks-of = c .held .right .marks;
     }
 
-module _ (s : Settings) (p : Pictures) (d : Depths) (g : Held) (total : ℕ) (c : Common s p d g) (f : Filled (s .left) (s .right) (s .share) (s .tolerance) (s .w) (s .h) p d g total) where
+module _ (s : Settings) (p : Pictures) (d : Depths) (g : Held) (total : ℕ) (c : Common s p d g) (f : Filled (s .left) (s .right) (s .share) (s .tolerance) (s .tear) (s .w) (s .h) p d g total) where
   left-is : g .left ≡ freshView s p d false
   left-is = view-whole s p d false (g .left) (c .depths) (planes-left s p d g c) (f .left)
 
@@ -84,6 +84,7 @@ common-kept s p d g₀ g c ls lf le lm rs rf re rm k =
           };
       tables = c .tables;
       share = c .share;
+      tear = c .tear;
     }
 
 -- the journal of a call that is accepted has a word 0
@@ -111,7 +112,7 @@ refused s p d g j r e ne eight =
 
 pub opened :
     (s : Settings) (p : Pictures) (d : Depths) (g₀ g : Held) (j : List ℕ) (total : ℕ) → openNumber s p d g₀ j ≡ 0 → Common s p d g →
-    Filled (s .left) (s .right) (s .share) (s .tolerance) (s .w) (s .h) p d g total → EightBit d →
+    Filled (s .left) (s .right) (s .share) (s .tolerance) (s .tear) (s .w) (s .h) p d g total → EightBit d →
     OpenPost s p d g₀ g j (set j 0 0) (record { refusal = None; settings = withTotal s total })
 opened s p d g₀ g j total e c f eight =
     record {

@@ -2,6 +2,7 @@
 use model::Opened;
 use model::Refusal;
 use model::Settings;
+use model::Tear;
 use validate::Lengths;
 use validate::ViewLengths;
 ghost use mathlib.Core.Path.{_≡_};
@@ -22,6 +23,7 @@ fn fill(
     rightTable: &[u16; 256],
     share: u8,
     tolerance: u8,
+    tear: Tear,
     w: usize,
     h: usize,
     left: &[u16],
@@ -44,12 +46,13 @@ fn fill(
     requires { ⌜ PlanesOf w h (now left) (now leftDepths) (view (now leftSamples) (now leftFronts) (now leftLimits) (now leftMarks)) ⌝ }
     requires { ⌜ PlanesOf w h (now right) (now rightDepths) (view (now rightSamples) (now rightFronts) (now rightLimits) (now rightMarks)) ⌝ }
     requires { ⌜ (length (now reference) ≡ w * h) × (length (now combined) ≡ w * h) ⌝ }
-    ensures { λ r. ⌜ Filled (now (leftTable .entry)) (now (rightTable .entry)) share tolerance w h
+    ensures { λ r. ⌜ Filled (now (leftTable .entry)) (now (rightTable .entry)) share tolerance tear w h
         (pictures (now (left .entry)) (now (right .entry)) (now (reference .entry))) (depths (now (leftDepths .entry)) (now (rightDepths .entry)))
         (held (view (now (leftSamples .exit)) (now (leftFronts .exit)) (now (leftLimits .exit)) (now (leftMarks .exit)))
         (view (now (rightSamples .exit)) (now (rightFronts .exit)) (now (rightLimits .exit)) (now (rightMarks .exit))) (now (combined .exit))) r ⌝ }
 {
     draw::draw_view(
+        tear,
         false,
         leftTable,
         w,
@@ -62,6 +65,7 @@ fn fill(
         leftMarks,
     );
     draw::draw_view(
+        tear,
         true,
         rightTable,
         w,
@@ -104,23 +108,24 @@ fn pictures_ok(left: &[u16], right: &[u16], reference: &[u16]) -> bool
     validate::picture_ok(reference)
 }
 
-// 1, 2, 3, 4, 13 or 21, the first that applies; `words` is the length of the journal.
+// 1, 2, 3, 4, 20, 13 or 21, the first that applies; `words` is the length of the journal.
 fn refusal_of(
     w: u32,
     h: u32,
     leftTable: &[u16; 256],
     rightTable: &[u16; 256],
     share: u8,
+    tear: Tear,
     lengths: Lengths,
     words: usize,
     left: &[u16],
     right: &[u16],
     reference: &[u16],
 ) -> Refusal
-    ensures { λ r. ⌜ numberOf r ≡ commonNumber w h (now (leftTable .entry)) (now (rightTable .entry)) share lengths
+    ensures { λ r. ⌜ numberOf r ≡ commonNumber w h (now (leftTable .entry)) (now (rightTable .entry)) share tear lengths
         (unless (ltb 0 words) 13 (unless (picturesOk (pictures (now (left .entry)) (now (right .entry)) (now (reference .entry)))) 21 0)) ⌝ }
 {
-    let first = validate::common(w, h, leftTable, rightTable, share, lengths);
+    let first = validate::common(w, h, leftTable, rightTable, share, tear, lengths);
     if model::number(first) != 0 {
         return first;
     }
@@ -162,12 +167,14 @@ pub fn open(
 {
     let leftTable = settings.left;
     let rightTable = settings.right;
+    let tear = settings.tear;
     let refusal = refusal_of(
         settings.w,
         settings.h,
         &leftTable,
         &rightTable,
         settings.share,
+        tear,
         Lengths {
             left: ViewLengths {
                 texture: left.len(),
@@ -204,6 +211,7 @@ pub fn open(
         &rightTable,
         settings.share,
         settings.tolerance,
+        tear,
         settings.w as usize,
         settings.h as usize,
         left,

@@ -35,7 +35,7 @@ next-most t d c =
     (λ h. rw (next-last t d c h) (omega arith))
     (lt-or-le (c + 1) (length d))
 
-pub pair-pixel : (l : Line) (q : Pair) (x : ℕ) → length (l .texture) ≡ width l → Stands (l .table) (l .depths) q → pixelOf (l .texture) q x ≡ ownedPixel l (q .column) x
+pub pair-pixel : (l : Line) (q : Pair) (x : ℕ) → length (l .texture) ≡ width l → Stands (l .table) (l .depths) q → pixelOf (l .tear) (l .texture) q x ≡ ownedPixel l (q .column) x
 unfolding pixelOf kindPixel smoothOf tornOf lastOf nextPlace ownedPixel lastPixel pairPixel smoothPixel tornPixel
 pair-pixel l q x e s =
     ⊎-elim

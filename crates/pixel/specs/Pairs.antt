@@ -7,6 +7,7 @@ use mathlib.Core.List.{List}
 use lib.ListN.{length, getD}
 use lib.Dec.{leb, ltb}
 use lib.IntN.{subℕ}
+use Rattle.model.specs.declared.Tear.{Tear}
 use Rattle.model.specs.declared.Pixel.{Pixel}
 use Rattle.model.specs.Row.{Line, quarter, place, sampleIn, kindOf, stepOf, mixed, pixel, plain, byKind, ownedPixel}
 use Rattle.model.specs.Views.{entryOf}
@@ -43,19 +44,19 @@ plainOf s q mark = pixel (sampleIn s (q .column)) mark (q .d0)
 unfoldable pub smoothOf : List ℕ → Pair → ℕ → Pixel
 smoothOf s q t = pixel (mixed s (q .column) (stepOf t (q .next - q .here))) 0 (q .d0)
 
-unfoldable pub tornOf : List ℕ → Pair → ℕ → Pixel
-tornOf s q t = cond (leb t 1) (plainOf s q 0) (pixel (sampleIn s (q .column + 1)) 1 (q .d1))
+unfoldable pub tornOf : Tear → List ℕ → Pair → ℕ → Pixel
+tornOf tear s q t = cond (leb t (tear .distance)) (plainOf s q 0) (pixel (sampleIn s (q .column + 1)) 1 (q .d1))
 
-unfoldable pub lastOf : List ℕ → Pair → ℕ → Pixel
-lastOf s q t = cond (leb t 1) (plainOf s q 0) (plainOf s q 1)
+unfoldable pub lastOf : Tear → List ℕ → Pair → ℕ → Pixel
+lastOf tear s q t = cond (leb t (tear .distance)) (plainOf s q 0) (plainOf s q 1)
 
 -- by the pair's kind; a hidden pair owns nothing
-unfoldable pub kindPixel : List ℕ → Pair → ℕ → Pixel
-kindPixel s q t = byKind (kindOf (subℕ (q .next) (q .here))) (plainOf s q 0) (smoothOf s q t) (tornOf s q t)
+unfoldable pub kindPixel : Tear → List ℕ → Pair → ℕ → Pixel
+kindPixel tear s q t = byKind (kindOf (tear .gap) (subℕ (q .next) (q .here))) (plainOf s q 0) (smoothOf s q t) (tornOf tear s q t)
 
 -- what x shows by the pair's column itself, where that owns it
-unfoldable pub pixelOf : List ℕ → Pair → ℕ → Pixel
-pixelOf s q x = cond (leb (length s) (q .column + 1)) (lastOf s q (x - q .here)) (kindPixel s q (x - q .here))
+unfoldable pub pixelOf : Tear → List ℕ → Pair → ℕ → Pixel
+pixelOf tear s q x = cond (leb (length s) (q .column + 1)) (lastOf tear s q (x - q .here)) (kindPixel tear s q (x - q .here))
 
 -- ---- near edges
 

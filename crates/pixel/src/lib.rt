@@ -1,5 +1,6 @@
 // What one position shows, from its owner, the column after it and the near edge beyond.
 use model::Pixel;
+use model::Tear;
 ghost use mathlib.Core.Path.{_≡_};
 ghost use Prim.Native.Nat.{_+_, _-_, _≤_, _<_};
 ghost use lib.ListN.{length};
@@ -91,12 +92,12 @@ fn smooth_pixel(right: bool, texture: &[u16], q: Pair, t: u32) -> Pixel
     }
 }
 
-// What a torn pair shows at t: the near column at most a quarter past it, then the far one, as a hole.
-fn torn_pixel(right: bool, texture: &[u16], q: Pair, t: u32) -> Pixel
+// What a torn pair shows at t: the near column up to the distance past it, then the far one, as a hole.
+fn torn_pixel(tear: Tear, right: bool, texture: &[u16], q: Pair, t: u32) -> Pixel
     requires { ⌜ (Among right (length (now texture)) q) × (q .column + 1 < length (now texture)) ⌝ }
-    ensures { λ r. ⌜ r ≡ tornOf (seen right (now (texture .entry))) q t ⌝ }
+    ensures { λ r. ⌜ r ≡ tornOf tear (seen right (now (texture .entry))) q t ⌝ }
 {
-    if t <= 1 {
+    if t <= tear.distance as u32 {
         Pixel {
             sample: sample_at(right, texture, q.column, q.entry),
             mark: 0,
@@ -111,23 +112,23 @@ fn torn_pixel(right: bool, texture: &[u16], q: Pair, t: u32) -> Pixel
     }
 }
 
-// What the last column shows at t: a hole from two quarters past it on.
-fn last_pixel(right: bool, texture: &[u16], q: Pair, t: u32) -> Pixel
+// What the last column shows at t: a hole from beyond the distance on.
+fn last_pixel(tear: Tear, right: bool, texture: &[u16], q: Pair, t: u32) -> Pixel
     requires { ⌜ Among right (length (now texture)) q ⌝ }
-    ensures { λ r. ⌜ r ≡ lastOf (seen right (now (texture .entry))) q t ⌝ }
+    ensures { λ r. ⌜ r ≡ lastOf tear (seen right (now (texture .entry))) q t ⌝ }
 {
     Pixel {
         sample: sample_at(right, texture, q.column, q.entry),
-        mark: (1 < t) as u8,
+        mark: ((tear.distance as u32) < t) as u8,
         front: q.d0,
     }
 }
 
 // What a pair shows at t, by its kind, which follows from its gap.
-fn kind_pixel(right: bool, texture: &[u16], q: Pair, t: u32) -> Pixel
+fn kind_pixel(tear: Tear, right: bool, texture: &[u16], q: Pair, t: u32) -> Pixel
     requires { ⌜ (Among right (length (now texture)) q) × (q .column + 1 < length (now texture)) ⌝ }
     requires { ⌜ (t < q .next - q .here) × (q .next < 65536) ⌝ }
-    ensures { λ r. ⌜ r ≡ kindPixel (seen right (now (texture .entry))) q t ⌝ }
+    ensures { λ r. ⌜ r ≡ kindPixel tear (seen right (now (texture .entry))) q t ⌝ }
 {
     let gap = signed::gap_of(q.here, q.next);
     match gap {
@@ -136,22 +137,27 @@ fn kind_pixel(right: bool, texture: &[u16], q: Pair, t: u32) -> Pixel
             mark: 0,
             front: q.d0,
         },
-        1..=8 => smooth_pixel(right, texture, q, t),
-        9.. => torn_pixel(right, texture, q, t),
+        1.. => {
+            if (tear.gap as i32) < gap {
+                torn_pixel(tear, right, texture, q, t)
+            } else {
+                smooth_pixel(right, texture, q, t)
+            }
+        }
     }
 }
 
 // What x shows by the pair's column itself, where that owns it.
-pub fn pixel_of(right: bool, texture: &[u16], q: Pair, x: u32) -> Pixel
+pub fn pixel_of(tear: Tear, right: bool, texture: &[u16], q: Pair, x: u32) -> Pixel
     requires { ⌜ Among right (length (now texture)) q ⌝ }
     requires { ⌜ (q .here ≤ x) × ((x < q .next) × (q .next < 65536)) ⌝ }
-    ensures { λ r. ⌜ r ≡ pixelOf (seen right (now (texture .entry))) q x ⌝ }
+    ensures { λ r. ⌜ r ≡ pixelOf tear (seen right (now (texture .entry))) q x ⌝ }
 {
     let t = x - q.here;
     if texture.len() <= q.column + 1 {
-        last_pixel(right, texture, q, t)
+        last_pixel(tear, right, texture, q, t)
     } else {
-        kind_pixel(right, texture, q, t)
+        kind_pixel(tear, right, texture, q, t)
     }
 }
 

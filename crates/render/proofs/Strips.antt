@@ -8,6 +8,7 @@ use lib.ListN.{length, take}
 use lib.Seq.{take-at}
 use lib.Dec.{eqb}
 use borrow.Author.Tests.{eqb-true, leb-true}
+use Rattle.model.specs.declared.Tear.{Tear}
 use Rattle.model.specs.declared.Settings.{Settings}
 use Rattle.model.specs.declared.Refusal.{Refusal}
 use Rattle.model.specs.Marks.{markBytes, packRow}
@@ -16,7 +17,7 @@ use Rattle.model.specs.Row.{Line, line, Row}
 use Rattle.model.specs.Views.{isRight, viewRow}
 use Rattle.model.specs.Fresh.{stripOf}
 use Rattle.model.specs.Promises.{RenderPost}
-use Rattle.model.specs.Refusals.{numberOf, sideOk, tableOk, tablesOk, viewOk, stripSized, renderNumber}
+use Rattle.model.specs.Refusals.{numberOf, sideOk, tableOk, tearOk, tablesOk, viewOk, stripSized, renderNumber}
 use Rattle.model.proofs.Choice.{and-left, and-right}
 use Rattle.model.proofs.Packing.{Flags}
 use Rattle.model.proofs.Fresh.{flags-view}
@@ -24,7 +25,7 @@ use Rattle.model.proofs.Refusals.{unless-true, unless-rest, Side, side-facts}
 use Rattle.row.specs.Drawing.{Ready, Shows}
 use Rattle.render.specs.Numbers.{stripFits, stripNumber}
 
-pub strip-number : (s : Settings) (v : ℕ) (texture depths : List ℕ) (x : Strip) → stripNumber (s .w) (s .left) (s .right) v (length texture) (length depths) (length (x .samples)) (length (x .marks)) (length (x .fronts)) ≡ renderNumber s v texture depths x
+pub strip-number : (s : Settings) (v : ℕ) (texture depths : List ℕ) (x : Strip) → stripNumber (s .w) (s .left) (s .right) (s .tear) v (length texture) (length depths) (length (x .samples)) (length (x .marks)) (length (x .fronts)) ≡ renderNumber s v texture depths x
 unfolding stripNumber stripFits renderNumber stripSized tablesOk
 strip-number s v texture depths x = refl
 
@@ -51,27 +52,28 @@ strip-facts w texture depths samples marks fronts h =
     }
 
 -- what the tests show where none applies
-pub record Accepted (w : ℕ) (left right : List ℕ) (view texture depths samples marks fronts : ℕ) : Type 0 where
+pub record Accepted (w : ℕ) (left right : List ℕ) (tear : Tear) (view texture depths samples marks fronts : ℕ) : Type 0 where
   pub side : Side w
   pub sized : StripSized w texture depths samples marks fronts
   pub left-table : tableOk left ≡ true
   pub right-table : tableOk right ≡ true
   pub view-most : view ≤ 1
 
-pub accepted : (w : ℕ) (left right : List ℕ) (view texture depths samples marks fronts : ℕ) → stripNumber w left right view texture depths samples marks fronts ≡ 0 → Accepted w left right view texture depths samples marks fronts
+pub accepted : (w : ℕ) (left right : List ℕ) (tear : Tear) (view texture depths samples marks fronts : ℕ) → stripNumber w left right tear view texture depths samples marks fronts ≡ 0 → Accepted w left right tear view texture depths samples marks fronts
 unfolding stripNumber
-accepted w left right view texture depths samples marks fronts h =
+accepted w left right tear view texture depths samples marks fronts h =
     let sized = stripFits w texture depths samples marks fronts in
     let tables = tableOk left && tableOk right in
     let h₁ = unless-rest (sideOk w) 0 _ h in
     let h₂ = unless-rest sized 1 _ h₁ in
     let h₃ = unless-rest tables 2 _ h₂ in
+    let h₄ = unless-rest (tearOk tear) 19 _ h₃ in
     record {
       side = side-facts w (unless-true (sideOk w) 0 _ h);
       sized = strip-facts w texture depths samples marks fronts (unless-true sized 1 _ h₁);
       left-table = and-left (tableOk left) _ (unless-true tables 2 _ h₂);
       right-table = and-right (tableOk left) _ (unless-true tables 2 _ h₂);
-      view-most = leb-true view 1 (unless-true (viewOk view) 5 _ h₃);
+      view-most = leb-true view 1 (unless-true (viewOk view) 5 _ h₄);
     }
 
 -- ---- a drawn row, packed
@@ -93,13 +95,13 @@ packed r s f fs rest m w e h k =
 module _ (s : Settings) (v : ℕ) (texture depths : List ℕ) (x₀ : Strip) where
   -- the number of RENDER's refusal, by the lengths of its planes
   abbrev pub numberAt : ℕ
-  numberAt = stripNumber (s .w) (s .left) (s .right) v (length texture) (length depths) (length (x₀ .samples)) (length (x₀ .marks)) (length (x₀ .fronts))
+  numberAt = stripNumber (s .w) (s .left) (s .right) (s .tear) v (length texture) (length depths) (length (x₀ .samples)) (length (x₀ .marks)) (length (x₀ .fronts))
 
   abbrev pub AcceptedAt : Type 0
-  AcceptedAt = Accepted (s .w) (s .left) (s .right) v (length texture) (length depths) (length (x₀ .samples)) (length (x₀ .marks)) (length (x₀ .fronts))
+  AcceptedAt = Accepted (s .w) (s .left) (s .right) (s .tear) v (length texture) (length depths) (length (x₀ .samples)) (length (x₀ .marks)) (length (x₀ .fronts))
 
   pub accepted-at : (r : Refusal) {n : ℕ} → numberOf r ≡ numberAt → n ≡ numberOf r → n ≡ 0 → AcceptedAt
-  accepted-at r e k z = accepted _ _ _ _ _ _ _ _ _ (sym e ∙ sym k ∙ z)
+  accepted-at r e k z = accepted _ _ _ _ _ _ _ _ _ _ (sym e ∙ sym k ∙ z)
 
   pub refused : (r : Refusal) {n : ℕ} → numberOf r ≡ numberAt → n ≡ numberOf r → (n ≡ 0 → ⊥) → RenderPost s v texture depths x₀ x₀ r
   refused r e k h =
@@ -111,7 +113,7 @@ module _ (s : Settings) (v : ℕ) (texture depths : List ℕ) (x₀ : Strip) whe
 
   -- what the drawing asks of the planes
   module _ (a : AcceptedAt) where
-    pub ready-strip : (table : List ℕ) → tableOk table ≡ true → Ready (line table texture depths)
+    pub ready-strip : (table : List ℕ) → tableOk table ≡ true → Ready (line (s .tear) table texture depths)
     ready-strip table h =
         record {
           table = h;
@@ -129,7 +131,7 @@ module _ (s : Settings) (v : ℕ) (texture depths : List ℕ) (x₀ : Strip) whe
     pub fronts-fit : length (x₀ .fronts) ≡ length depths
     fronts-fit = a .sized .fronts-is ∙ sym (a .sized .depths-is)
 
-    pub drawn : (right : Bool) (x : Strip) (r : Refusal) {n : ℕ} → numberOf r ≡ numberAt → n ≡ numberOf r → n ≡ 0 → isRight v ≡ right → x ≡ stripOf (length depths) (viewRow right (line (tableOf s right) texture depths)) → RenderPost s v texture depths x₀ x r
+    pub drawn : (right : Bool) (x : Strip) (r : Refusal) {n : ℕ} → numberOf r ≡ numberAt → n ≡ numberOf r → n ≡ 0 → isRight v ≡ right → x ≡ stripOf (length depths) (viewRow right (line (s .tear) (tableOf s right) texture depths)) → RenderPost s v texture depths x₀ x r
     drawn right x r e k z q d =
         record {
           number = e ∙ strip-number s v texture depths x₀;

@@ -1,6 +1,7 @@
 // RENDER: one row of one view.
 use model::Refusal;
 use model::Settings;
+use model::Tear;
 ghost use mathlib.Core.Path.{_≡_};
 ghost use mathlib.Core.Bool.{true};
 ghost use Prim.Native.Nat.{_≤_};
@@ -42,11 +43,12 @@ fn strip_sized(
     fronts == w
 }
 
-// 1, 2, 3 or 6, the first that applies; of a plane it is told the length.
+// 1, 2, 3, 20 or 6, the first that applies; of a plane it is told the length.
 fn strip_refusal(
     w: u32,
     left: &[u16; 256],
     right: &[u16; 256],
+    tear: Tear,
     view: u32,
     texture: usize,
     depths: usize,
@@ -54,7 +56,7 @@ fn strip_refusal(
     marks: usize,
     fronts: usize,
 ) -> Refusal
-    ensures { λ r. ⌜ numberOf r ≡ stripNumber w (now (left .entry)) (now (right .entry)) view texture depths samples marks fronts ⌝ }
+    ensures { λ r. ⌜ numberOf r ≡ stripNumber w (now (left .entry)) (now (right .entry)) tear view texture depths samples marks fronts ⌝ }
 {
     if !validate::side_ok(w) {
         return Refusal::Size;
@@ -65,6 +67,9 @@ fn strip_refusal(
     if !validate::tables_ok(left, right) {
         return Refusal::Table;
     }
+    if !validate::tear_ok(tear) {
+        return Refusal::Gap;
+    }
     if 1 < view {
         return Refusal::View;
     }
@@ -73,6 +78,7 @@ fn strip_refusal(
 
 // Draws the row into samples, packed marks and front depths; `flags` is room for its marks.
 fn draw_packed(
+    tear: Tear,
     right: bool,
     table: &[u16; 256],
     texture: &[u16],
@@ -82,14 +88,15 @@ fn draw_packed(
     fronts: &mut [u8],
     flags: &mut [u8],
 )
-    requires { ⌜ Ready (line (now table) (now texture) (now depths)) ⌝ }
+    requires { ⌜ Ready (line tear (now table) (now texture) (now depths)) ⌝ }
     requires { ⌜ (length (now samples) ≡ length (now depths)) × ((length (now marks) ≡ markBytes (length (now depths))) × (length (now fronts) ≡ length (now depths))) ⌝ }
     requires { ⌜ length (now depths) ≤ length (now flags) ⌝ }
     ensures { λ _. ⌜ strip (now (samples .exit)) (now (marks .exit)) (now (fronts .exit))
-        ≡ stripOf (length (now (depths .entry))) (viewRow right (line (now (table .entry)) (now (texture .entry)) (now (depths .entry)))) ⌝ }
+        ≡ stripOf (length (now (depths .entry))) (viewRow right (line tear (now (table .entry)) (now (texture .entry)) (now (depths .entry)))) ⌝ }
 {
     let w = depths.len();
     row::draw_view_row(
+        tear,
         right,
         table,
         texture,
@@ -103,6 +110,7 @@ fn draw_packed(
 
 // The same, with room of its own.
 fn draw_strip(
+    tear: Tear,
     right: bool,
     table: &[u16; 256],
     texture: &[u16],
@@ -111,13 +119,14 @@ fn draw_strip(
     marks: &mut [u8],
     fronts: &mut [u8],
 )
-    requires { ⌜ Ready (line (now table) (now texture) (now depths)) ⌝ }
+    requires { ⌜ Ready (line tear (now table) (now texture) (now depths)) ⌝ }
     requires { ⌜ (length (now samples) ≡ length (now depths)) × ((length (now marks) ≡ markBytes (length (now depths))) × (length (now fronts) ≡ length (now depths))) ⌝ }
     ensures { λ _. ⌜ strip (now (samples .exit)) (now (marks .exit)) (now (fronts .exit))
-        ≡ stripOf (length (now (depths .entry))) (viewRow right (line (now (table .entry)) (now (texture .entry)) (now (depths .entry)))) ⌝ }
+        ≡ stripOf (length (now (depths .entry))) (viewRow right (line tear (now (table .entry)) (now (texture .entry)) (now (depths .entry)))) ⌝ }
 {
     let mut flags = [0u8; 4096];
     draw_packed(
+        tear,
         right,
         table,
         texture,
@@ -145,10 +154,12 @@ pub fn render(
 {
     let left = settings.left;
     let right = settings.right;
+    let tear = settings.tear;
     let refusal = strip_refusal(
         settings.w,
         &left,
         &right,
+        tear,
         view,
         texture.len(),
         depths.len(),
@@ -160,9 +171,9 @@ pub fn render(
         return refusal;
     }
     if view == 1 {
-        draw_strip(true, &right, texture, depths, samples, marks, fronts);
+        draw_strip(tear, true, &right, texture, depths, samples, marks, fronts);
     } else {
-        draw_strip(false, &left, texture, depths, samples, marks, fronts);
+        draw_strip(tear, false, &left, texture, depths, samples, marks, fronts);
     }
     refusal
 }

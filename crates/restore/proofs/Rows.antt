@@ -12,6 +12,7 @@ use native.Mathlib.Nat.{mul-comm}
 use lib.ListN.{length, take}
 use lib.Seq.{length-take-le}
 use borrow.Author.Tests.{eq-eqb}
+use Rattle.model.specs.declared.Tear.{Tear}
 use Rattle.model.specs.declared.Block.{Block}
 use Rattle.model.specs.Lists.{rowOf}
 use Rattle.model.specs.declared.Candidate.the-variants.{Full}
@@ -29,7 +30,7 @@ use Rattle.combine.proofs.Rows.{Through}
 use Rattle.restore.specs.Saved.{Narrowed}
 use Rattle.restore.proofs.Parts.{part-rows}
 
-module _ {right : Bool} {t : List ℕ} {share tolerance w h : ℕ} {b : Block} {j : ℕ} {texture candidate s₂ f₂ m₂ d₀ d d′ : List ℕ} {v₀ v v′ : View} {c₀ c c′ : List ℕ} (through : Through right t share tolerance w h b j texture candidate s₂ f₂ m₂ d₀ d v₀ v c₀ c) (block : BlockIn w h b candidate) (start : length d₀ ≡ w * h) (x : List ℕ) (n : ℕ) (more : j + n ≤ b .height) (size : length x ≡ b .width * n) (rows : (k : ℕ) → k < n → rowOf x (b .width) k ≡ rowOf candidate (b .width) (j + k)) (set : BlockSet right t share tolerance w h (below b j n) texture x s₂ f₂ m₂ d d′ v v′ c c′) where
+module _ {tear : Tear} {right : Bool} {t : List ℕ} {share tolerance w h : ℕ} {b : Block} {j : ℕ} {texture candidate s₂ f₂ m₂ d₀ d d′ : List ℕ} {v₀ v v′ : View} {c₀ c c′ : List ℕ} (through : Through tear right t share tolerance w h b j texture candidate s₂ f₂ m₂ d₀ d v₀ v c₀ c) (block : BlockIn w h b candidate) (start : length d₀ ≡ w * h) (x : List ℕ) (n : ℕ) (more : j + n ≤ b .height) (size : length x ≡ b .width * n) (rows : (k : ℕ) → k < n → rowOf x (b .width) k ≡ rowOf candidate (b .width) (j + k)) (set : BlockSet tear right t share tolerance w h (below b j n) texture x s₂ f₂ m₂ d d′ v v′ c c′) where
   within : (plane : List ℕ) → length plane ≡ w * h → (k : ℕ) → k < h → k * w + w ≤ length plane
   within plane e k l = omega (arith, rows-apart w k h l, mul-comm w h)
 
@@ -58,7 +59,7 @@ module _ {right : Bool} {t : List ℕ} {share tolerance w h : ℕ} {b : Block} {
   none k (inl u) = rows-under (below b j n) k (omega arith)
   none k (inr u) = rows-beyond (below b j n) k (omega arith)
 
-  pub through-block : Through right t share tolerance w h b (j + n) texture candidate s₂ f₂ m₂ d₀ d′ v₀ v′ c₀ c′
+  pub through-block : Through tear right t share tolerance w h b (j + n) texture candidate s₂ f₂ m₂ d₀ d′ v₀ v′ c₀ c′
   through-block =
       record {
         row = more;
@@ -91,7 +92,7 @@ module _ {w h : ℕ} {b : Block} {words room : List ℕ} {done left n : ℕ} (fi
     rw (eq-eqb (length (take (n * b .width) room)) (b .width * n) size) refl,
   )
 
-  pub through-saved : {right : Bool} {t : List ℕ} {share tolerance : ℕ} {texture s₂ f₂ m₂ d₀ d d′ : List ℕ} {v₀ v v′ : View} {c₀ c c′ : List ℕ} → Through right t share tolerance w h b done texture words s₂ f₂ m₂ d₀ d v₀ v c₀ c → length d₀ ≡ w * h → BlockSet right t share tolerance w h (below b done n) texture (filled (below b done n) Full (take (n * b .width) room)) s₂ f₂ m₂ d d′ v v′ c c′ → Through right t share tolerance w h b (done + n) texture words s₂ f₂ m₂ d₀ d′ v₀ v′ c₀ c′
+  pub through-saved : {tear : Tear} {right : Bool} {t : List ℕ} {share tolerance : ℕ} {texture s₂ f₂ m₂ d₀ d d′ : List ℕ} {v₀ v v′ : View} {c₀ c c′ : List ℕ} → Through tear right t share tolerance w h b done texture words s₂ f₂ m₂ d₀ d v₀ v c₀ c → length d₀ ≡ w * h → BlockSet tear right t share tolerance w h (below b done n) texture (filled (below b done n) Full (take (n * b .width) room)) s₂ f₂ m₂ d d′ v v′ c c′ → Through tear right t share tolerance w h b (done + n) texture words s₂ f₂ m₂ d₀ d′ v₀ v′ c₀ c′
   unfolding filled
   through-saved through start set =
       through-block through (record { some = fits .some; right = fits .right; below = fits .bottom; size = fits .entries }) start (take (n * b .width) room) n more size

@@ -3,6 +3,7 @@
 use decide::Decision;
 use model::Block;
 use model::Candidate;
+use model::Tear;
 use trial::Sums;
 ghost use mathlib.Core.Path.{_≡_};
 ghost use mathlib.Core.Bool.{true};
@@ -43,6 +44,7 @@ fn narrow_rows(words: &[u32], width: usize, done: usize, left: usize, room: &mut
 
 // The two sums of the trial of a block with the depths that were saved.
 fn trial_saved(
+    tear: Tear,
     right: bool,
     table: &[u16; 256],
     share: u8,
@@ -65,10 +67,10 @@ fn trial_saved(
     reference: &[u16],
 ) -> Sums
     requires { ⌜ (tableOk (now table) ≡ true) × (share ≤ 64) ⌝ }
-    requires { ⌜ Sized w h (around right share tolerance (now samples) (now fronts) (now marks) (now combined) (now reference)) (own (now table) (now texture) (now depths) (now limits)) ⌝ }
+    requires { ⌜ Sized w h (around right share tolerance (now samples) (now fronts) (now marks) (now combined) (now reference)) (own tear (now table) (now texture) (now depths) (now limits)) ⌝ }
     requires { ⌜ (Fits w h (blockOf column row width height) (now words)) × ((upTo 255 (now words) ≡ true) × (length (now room) ≡ 4096)) ⌝ }
     ensures { λ r. ⌜ BlockTrial w (around right share tolerance (now (samples .entry)) (now (fronts .entry)) (now (marks .entry)) (now (combined .entry)) (now (reference .entry)))
-        (own (now (table .entry)) (now (texture .entry)) (now (depths .entry)) (now (limits .entry))) (blockOf column row width height) (now (words .entry)) height (r .old) (r .new) ⌝ }
+        (own tear (now (table .entry)) (now (texture .entry)) (now (depths .entry)) (now (limits .entry))) (blockOf column row width height) (now (words .entry)) height (r .old) (r .new) ⌝ }
 {
     let mut old = 0u64;
     let mut new = 0u64;
@@ -77,6 +79,7 @@ fn trial_saved(
         let n = narrow_rows(words, width, done, height - done, room);
         let end = n * width;
         let part = trial::trial_block(
+            tear,
             right,
             table,
             share,
@@ -106,6 +109,7 @@ fn trial_saved(
 
 // Writes the depths that were saved into the block in one view's depths, and brings that view's planes and the combined picture up to date.
 fn set_saved(
+    tear: Tear,
     right: bool,
     table: &[u16; 256],
     share: u8,
@@ -133,7 +137,7 @@ fn set_saved(
     requires { ⌜ commit.Sized w h (now texture) (now depths) (planes.view (now samples) (now fronts) (now limits) (now marks)) ⌝ }
     requires { ⌜ OtherSized w h (now samples2) (now fronts2) (now marks2) (now combined) ⌝ }
     requires { ⌜ (Fits w h (blockOf column row width height) (now words)) × ((upTo 255 (now words) ≡ true) × (length (now room) ≡ 4096)) ⌝ }
-    ensures { λ _. ⌜ BlockSet right (now (table .entry)) share tolerance w h (blockOf column row width height) (now (texture .entry)) (now (words .entry)) (now (samples2 .entry)) (now (fronts2 .entry)) (now (marks2 .entry))
+    ensures { λ _. ⌜ BlockSet tear right (now (table .entry)) share tolerance w h (blockOf column row width height) (now (texture .entry)) (now (words .entry)) (now (samples2 .entry)) (now (fronts2 .entry)) (now (marks2 .entry))
         (now (depths .entry)) (now (depths .exit))
         (planes.view (now (samples .entry)) (now (fronts .entry)) (now (limits .entry)) (now (marks .entry)))
         (planes.view (now (samples .exit)) (now (fronts .exit)) (now (limits .exit)) (now (marks .exit)))
@@ -144,6 +148,7 @@ fn set_saved(
         let n = narrow_rows(words, width, done, height - done, room);
         let end = n * width;
         combine::set_block(
+            tear,
             right,
             table,
             share,
@@ -174,6 +179,7 @@ fn set_saved(
 // Tries what was saved in one view and, where the total stays in range, writes it: texture, depths, samples, fronts, limits and marks are the view's own, and
 // samples2, fronts2 and marks2 the other view's.
 fn restore(
+    tear: Tear,
     right: bool,
     table: &[u16; 256],
     share: u8,
@@ -196,10 +202,10 @@ fn restore(
     reference: &[u16],
 ) -> Decision
     requires { ⌜ (tableOk (now table) ≡ true) × (share ≤ 64) ⌝ }
-    requires { ⌜ Sized w h (around right share tolerance (now samples2) (now fronts2) (now marks2) (now combined) (now reference)) (own (now table) (now texture) (now depths) (now limits)) ⌝ }
+    requires { ⌜ Sized w h (around right share tolerance (now samples2) (now fronts2) (now marks2) (now combined) (now reference)) (own tear (now table) (now texture) (now depths) (now limits)) ⌝ }
     requires { ⌜ commit.Sized w h (now texture) (now depths) (planes.view (now samples) (now fronts) (now limits) (now marks)) ⌝ }
     requires { ⌜ (Fits w h block (now words)) × (upTo 255 (now words) ≡ true) ⌝ }
-    ensures { λ r. ⌜ OwnSettled right (now (table .entry)) share tolerance total w h block 0 (now (texture .entry)) (now (words .entry))
+    ensures { λ r. ⌜ OwnSettled tear right (now (table .entry)) share tolerance total w h block 0 (now (texture .entry)) (now (words .entry))
         (now (samples2 .entry)) (now (fronts2 .entry)) (now (marks2 .entry)) (now (reference .entry))
         (now (depths .entry)) (now (depths .exit))
         (planes.view (now (samples .entry)) (now (fronts .entry)) (now (limits .entry)) (now (marks .entry)))
@@ -214,6 +220,7 @@ fn restore(
     let height = block.height as usize;
     let mut room = fill::long_room();
     let sums = trial_saved(
+        tear,
         right,
         table,
         share,
@@ -242,6 +249,7 @@ fn restore(
         return decision;
     }
     set_saved(
+        tear,
         right,
         table,
         share,
@@ -276,6 +284,7 @@ pub fn restore_view<'a>(
     rightTable: &'a [u16; 256],
     share: u8,
     tolerance: u8,
+    tear: Tear,
     total: u64,
     left: &[u16],
     right: &[u16],
@@ -295,12 +304,12 @@ pub fn restore_view<'a>(
     block: Block,
     words: &[u32],
 ) -> Decision
-    requires { ⌜ SavedIn (settingsOf w h (now leftTable) (now rightTable) share tolerance total)
+    requires { ⌜ SavedIn (settingsOf w h (now leftTable) (now rightTable) share tolerance tear total)
         (planes.pictures (now left) (now right) (now reference))
         (planes.depths (now leftDepths) (now rightDepths))
         (heldOf (now leftSamples) (now leftFronts) (now leftLimits) (now leftMarks) (now rightSamples) (now rightFronts) (now rightLimits) (now rightMarks) (now combined))
         block (now words) ⌝ }
-    ensures { λ r. ⌜ Settled (settingsOf w h (now (leftTable .entry)) (now (rightTable .entry)) share tolerance total)
+    ensures { λ r. ⌜ Settled (settingsOf w h (now (leftTable .entry)) (now (rightTable .entry)) share tolerance tear total)
         (planes.pictures (now (left .entry)) (now (right .entry)) (now (reference .entry)))
         (planes.depths (now (leftDepths .entry)) (now (rightDepths .entry)))
         (planes.depths (now (leftDepths .exit)) (now (rightDepths .exit)))
@@ -310,6 +319,7 @@ pub fn restore_view<'a>(
 {
     if view == 1 {
         return restore(
+            tear,
             true,
             rightTable,
             share,
@@ -333,6 +343,7 @@ pub fn restore_view<'a>(
         );
     }
     restore(
+        tear,
         false,
         leftTable,
         share,

@@ -14,6 +14,7 @@ use native.Mathlib.Omega.{arith}
 use lib.ListN.{length, getD}
 use lib.IntN.{ℤ, pos}
 use borrow.Author.Tests.{lt-ltb, le-ltb}
+use Rattle.model.specs.declared.Tear.{Tear}
 use Rattle.model.specs.Row.{line, place, limit, quarter, limitAt, placedAt}
 use Rattle.model.specs.Refusals.{tableOk}
 use Rattle.model.proofs.Choice.{lt-or-le}
@@ -41,9 +42,9 @@ limit-least e n next =
     ⊎-elim (λ h. rw (lt-ltb n (length e) h) (omega arith)) (λ h. rw (le-ltb n (length e) h) (omega arith)) (lt-or-le n (length e))
 
 module _ (t d : List ℕ) (e : List ℤ) (n : ℕ) where
-  pub limit-true : (s : List ℕ) → length e ≡ length d → length d ≤ 4096 → 0 < n → n ≤ length d → (n < length d → getD e n (pos 0) ≡ limitAt (line t s d) n) → limitUnder e n (nextPlace t d (n - 1)) ≡ limit (place t d) (length d) n
+  pub limit-true : (tear : Tear) (s : List ℕ) → length e ≡ length d → length d ≤ 4096 → 0 < n → n ≤ length d → (n < length d → getD e n (pos 0) ≡ limitAt (line tear t s d) n) → limitUnder e n (nextPlace t d (n - 1)) ≡ limit (place t d) (length d) n
   unfolding limitUnder limitAt
-  limit-true s same most some k h = ⊎-elim inner last (lt-or-le n (length d))
+  limit-true tear s same most some k h = ⊎-elim inner last (lt-or-le n (length d))
     where
       inner : n < length d → limitUnder e n (nextPlace t d (n - 1)) ≡ limit (place t d) (length d) n
       inner l =
@@ -70,7 +71,7 @@ edge-edged t d e n g same some k h =
     end v = rw (h .limit, le-ltb n (length e) (omega arith), next-end t d n some v) (omega arith)
 
 -- the held limits e are true from column n on
-module _ (t s d : List ℕ) (e : List ℤ) (n : ℕ) (ok : tableOk t ≡ true) (same : length e ≡ length d) (most : length d ≤ 4096) (true-limits : (c : ℕ) → n ≤ c → c < length d → getD e c (pos 0) ≡ limitAt (line t s d) c) where
+module _ (tear : Tear) (t s d : List ℕ) (e : List ℤ) (n : ℕ) (ok : tableOk t ≡ true) (same : length e ≡ length d) (most : length d ≤ 4096) (true-limits : (c : ℕ) → n ≤ c → c < length d → getD e c (pos 0) ≡ limitAt (line tear t s d) c) where
   abbrev f : ℕ → ℕ
   f = place t d
 

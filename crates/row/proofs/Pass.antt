@@ -153,7 +153,7 @@ module _ {right : Bool} {l : Line} {stop : ℕ} {q₀ q : Pair} (h : Passed l q�
       }
 
   -- the first column that is placed at most at a position owns it, and the pair shows what it shows there
-  pub owner-passed : length (l .texture) ≡ width l → q .here ≤ lastBelow stop → shownOf (l .texture) (l .depths) q (lastBelow stop) ≡ pixelBelow l (q₀ .column + 1) (edgeRight q₀) (stop - 1)
+  pub owner-passed : length (l .texture) ≡ width l → q .here ≤ lastBelow stop → shownOf (l .tear) (l .texture) (l .depths) q (lastBelow stop) ≡ pixelBelow l (q₀ .column + 1) (edgeRight q₀) (stop - 1)
   unfolding pixelBelow shownOf edgedPixel
   owner-passed wide k =
       let x : quarter (stop - 1) ≡ lastBelow stop = omega arith in

@@ -7,6 +7,7 @@ use mathlib.Core.List.{List}
 use lib.Dec.{ltb}
 use lib.ListN.{length, getD}
 use lib.IntN.{ℤ, pos}
+use Rattle.model.specs.declared.Tear.{Tear}
 use Rattle.model.specs.declared.Pixel.{Pixel}
 use Rattle.model.specs.Row.{Line, line, width, place, placeIn, quarter, least, owner, sampleIn, pixel, Row}
 use Rattle.model.specs.Views.{seen}
@@ -35,8 +36,8 @@ unfoldable pub frontBelow : (ℕ → ℕ) → Edge → ℕ → ℕ → ℕ
 frontBelow f g n c = front f (g .limit) (g .column) c (n - c)
 
 -- what x shows where the pair's column owns it: s is the texture and d the depths, as the view reads them
-unfoldable pub shownOf : List ℕ → List ℕ → Pair → ℕ → Pixel
-shownOf s d q x = cond (atEdge (q .limit) (q .next) x) (pixel (sampleIn s (q .front)) 0 (getD d (q .front) 0)) (pixelOf s q x)
+unfoldable pub shownOf : Tear → List ℕ → List ℕ → Pair → ℕ → Pixel
+shownOf tear s d q x = cond (atEdge (q .limit) (q .next) x) (pixel (sampleIn s (q .front)) 0 (getD d (q .front) 0)) (pixelOf tear s q x)
 
 -- position p drawn from the columns below n alone, where g is taken for the edge right of them
 unfoldable pub pixelBelow : Line → ℕ → Edge → ℕ → Pixel
@@ -85,8 +86,8 @@ pub record Ready (l : Line) : Type 0 where
 -- ---- drawing from a pair on
 
 -- the row as the view reads it, with the candidate x in the entries from `column` on
-abbrev pub lineWith : Bool → List ℕ → List ℕ → List ℕ → ℕ → List ℕ → Line
-lineWith right t s d column x = line t (seen right s) (seen right (splice d column x))
+abbrev pub lineWith : Tear → Bool → List ℕ → List ℕ → List ℕ → ℕ → List ℕ → Line
+lineWith tear right t s d column x = line tear t (seen right s) (seen right (splice d column x))
 
 -- A pair of the row l from which the positions below `stop` can be drawn: they lie before its edge, and that is not past its second column.
 pub record Ahead (right : Bool) (l : Line) (stop : ℕ) (q : Pair) : Type 0 where

@@ -1,5 +1,6 @@
 // One row of one view: places, pixels, the drawing from the right, and limits.
 use model::Pixel;
+use model::Tear;
 use pixel::Edge;
 use pixel::Pair;
 ghost use mathlib.Core.Path.{_≡_};
@@ -197,6 +198,7 @@ fn step(
 // What x shows, where the pair's column owns it: the near edge, or what the column itself shows. That is made first, though an edge does not
 // need it: with the filter behind the test, the compiler takes it for half as likely and leaves it out of the trial's loop.
 fn shown_at(
+    tear: Tear,
     right: bool,
     texture: &[u16],
     depths: &[u8],
@@ -208,9 +210,9 @@ fn shown_at(
     requires { ⌜ (length (now texture) ≡ length (now depths)) × (column + length (now candidate) ≤ length (now depths)) ⌝ }
     requires { ⌜ Among right (length (now depths)) q ⌝ }
     requires { ⌜ (q .here ≤ x) × ((x < q .limit) × ((q .limit ≤ q .next) × (q .next ≤ quarter (length (now depths))))) ⌝ }
-    ensures { λ r. ⌜ r ≡ shownOf (seen right (now (texture .entry))) (seen right (splice (now (depths .entry)) column (now (candidate .entry)))) q x ⌝ }
+    ensures { λ r. ⌜ r ≡ shownOf tear (seen right (now (texture .entry))) (seen right (splice (now (depths .entry)) column (now (candidate .entry)))) q x ⌝ }
 {
-    let own = pixel::pixel_of(right, texture, q, x);
+    let own = pixel::pixel_of(tear, right, texture, q, x);
     if pixel::at_edge(q.limit, q.next, x) {
         let e = planes::entry(right, depths.len(), q.front);
         let depth = tried_at(depths, candidate, column, e);
@@ -223,6 +225,7 @@ fn shown_at(
 // Draws the positions from `start` on, from the right, into parts of just that stretch: columns are stepped to the left until one is placed at
 // most at the position, which is then its owner; the nearest that was passed is the edge right of it. Answers the pair that it has come to.
 fn draw_positions(
+    tear: Tear,
     right: bool,
     table: &[u16; 256],
     texture: &[u16],
@@ -235,10 +238,10 @@ fn draw_positions(
     fronts: &mut [u8],
     flags: &mut [u8],
 ) -> Pair
-    requires { ⌜ (Ready (lineWith right (now table) (now texture) (now depths) column (now candidate))) × (column + length (now candidate) ≤ length (now depths)) ⌝ }
-    requires { ⌜ Ahead right (lineWith right (now table) (now texture) (now depths) column (now candidate)) (start + length (now samples)) from ⌝ }
+    requires { ⌜ (Ready (lineWith tear right (now table) (now texture) (now depths) column (now candidate))) × (column + length (now candidate) ≤ length (now depths)) ⌝ }
+    requires { ⌜ Ahead right (lineWith tear right (now table) (now texture) (now depths) column (now candidate)) (start + length (now samples)) from ⌝ }
     requires { ⌜ (length (now fronts) ≡ length (now samples)) × (length (now flags) ≡ length (now samples)) ⌝ }
-    ensures { λ r. ⌜ SpanDrawn right (lineWith right (now (table .entry)) (now (texture .entry)) (now (depths .entry)) column (now (candidate .entry))) start from r
+    ensures { λ r. ⌜ SpanDrawn right (lineWith tear right (now (table .entry)) (now (texture .entry)) (now (depths .entry)) column (now (candidate .entry))) start from r
         (now (samples .entry)) (now (fronts .entry)) (now (flags .entry)) (now (samples .exit)) (now (fronts .exit)) (now (flags .exit)) ⌝ }
 {
     let mut q = from;
@@ -249,7 +252,7 @@ fn draw_positions(
             q = step(right, table, depths, candidate, column, q);
         } else {
             i -= 1;
-            let shown = shown_at(right, texture, depths, candidate, column, q, x);
+            let shown = shown_at(tear, right, texture, depths, candidate, column, q, x);
             put_pixel(right, samples, fronts, flags, i, shown);
         }
     }
@@ -258,6 +261,7 @@ fn draw_positions(
 
 // The same for each view: the compiler makes a loop for each where the view is known.
 fn draw_left(
+    tear: Tear,
     table: &[u16; 256],
     texture: &[u16],
     depths: &[u8],
@@ -269,13 +273,14 @@ fn draw_left(
     fronts: &mut [u8],
     flags: &mut [u8],
 ) -> Pair
-    requires { ⌜ (Ready (lineWith false (now table) (now texture) (now depths) column (now candidate))) × (column + length (now candidate) ≤ length (now depths)) ⌝ }
-    requires { ⌜ Ahead false (lineWith false (now table) (now texture) (now depths) column (now candidate)) (start + length (now samples)) from ⌝ }
+    requires { ⌜ (Ready (lineWith tear false (now table) (now texture) (now depths) column (now candidate))) × (column + length (now candidate) ≤ length (now depths)) ⌝ }
+    requires { ⌜ Ahead false (lineWith tear false (now table) (now texture) (now depths) column (now candidate)) (start + length (now samples)) from ⌝ }
     requires { ⌜ (length (now fronts) ≡ length (now samples)) × (length (now flags) ≡ length (now samples)) ⌝ }
-    ensures { λ r. ⌜ SpanDrawn false (lineWith false (now (table .entry)) (now (texture .entry)) (now (depths .entry)) column (now (candidate .entry))) start from r
+    ensures { λ r. ⌜ SpanDrawn false (lineWith tear false (now (table .entry)) (now (texture .entry)) (now (depths .entry)) column (now (candidate .entry))) start from r
         (now (samples .entry)) (now (fronts .entry)) (now (flags .entry)) (now (samples .exit)) (now (fronts .exit)) (now (flags .exit)) ⌝ }
 {
     draw_positions(
+        tear,
         false,
         table,
         texture,
@@ -291,6 +296,7 @@ fn draw_left(
 }
 
 fn draw_right(
+    tear: Tear,
     table: &[u16; 256],
     texture: &[u16],
     depths: &[u8],
@@ -302,13 +308,14 @@ fn draw_right(
     fronts: &mut [u8],
     flags: &mut [u8],
 ) -> Pair
-    requires { ⌜ (Ready (lineWith true (now table) (now texture) (now depths) column (now candidate))) × (column + length (now candidate) ≤ length (now depths)) ⌝ }
-    requires { ⌜ Ahead true (lineWith true (now table) (now texture) (now depths) column (now candidate)) (start + length (now samples)) from ⌝ }
+    requires { ⌜ (Ready (lineWith tear true (now table) (now texture) (now depths) column (now candidate))) × (column + length (now candidate) ≤ length (now depths)) ⌝ }
+    requires { ⌜ Ahead true (lineWith tear true (now table) (now texture) (now depths) column (now candidate)) (start + length (now samples)) from ⌝ }
     requires { ⌜ (length (now fronts) ≡ length (now samples)) × (length (now flags) ≡ length (now samples)) ⌝ }
-    ensures { λ r. ⌜ SpanDrawn true (lineWith true (now (table .entry)) (now (texture .entry)) (now (depths .entry)) column (now (candidate .entry))) start from r
+    ensures { λ r. ⌜ SpanDrawn true (lineWith tear true (now (table .entry)) (now (texture .entry)) (now (depths .entry)) column (now (candidate .entry))) start from r
         (now (samples .entry)) (now (fronts .entry)) (now (flags .entry)) (now (samples .exit)) (now (fronts .exit)) (now (flags .exit)) ⌝ }
 {
     draw_positions(
+        tear,
         true,
         table,
         texture,
@@ -326,6 +333,7 @@ fn draw_right(
 // Draws the positions from `start` on of a row with the candidate in the entries from `column` on, into parts of just that stretch. The pair
 // `from` may be any whose edge lies past them; drawn is what the columns up to its first show, and the edge.
 pub fn draw_span(
+    tear: Tear,
     right: bool,
     table: &[u16; 256],
     texture: &[u16],
@@ -338,14 +346,15 @@ pub fn draw_span(
     fronts: &mut [u8],
     flags: &mut [u8],
 ) -> Pair
-    requires { ⌜ (Ready (lineWith right (now table) (now texture) (now depths) column (now candidate))) × (column + length (now candidate) ≤ length (now depths)) ⌝ }
-    requires { ⌜ Ahead right (lineWith right (now table) (now texture) (now depths) column (now candidate)) (start + length (now samples)) from ⌝ }
+    requires { ⌜ (Ready (lineWith tear right (now table) (now texture) (now depths) column (now candidate))) × (column + length (now candidate) ≤ length (now depths)) ⌝ }
+    requires { ⌜ Ahead right (lineWith tear right (now table) (now texture) (now depths) column (now candidate)) (start + length (now samples)) from ⌝ }
     requires { ⌜ (length (now fronts) ≡ length (now samples)) × (length (now flags) ≡ length (now samples)) ⌝ }
-    ensures { λ r. ⌜ SpanDrawn right (lineWith right (now (table .entry)) (now (texture .entry)) (now (depths .entry)) column (now (candidate .entry))) start from r
+    ensures { λ r. ⌜ SpanDrawn right (lineWith tear right (now (table .entry)) (now (texture .entry)) (now (depths .entry)) column (now (candidate .entry))) start from r
         (now (samples .entry)) (now (fronts .entry)) (now (flags .entry)) (now (samples .exit)) (now (fronts .exit)) (now (flags .exit)) ⌝ }
 {
     if right {
         draw_right(
+            tear,
             table,
             texture,
             depths,
@@ -359,6 +368,7 @@ pub fn draw_span(
         )
     } else {
         draw_left(
+            tear,
             table,
             texture,
             depths,
@@ -520,6 +530,7 @@ pub fn row_low(right: bool, table: &[u16; 256], depths: &[u8], a: usize, n: usiz
 
 // Draws the positions from `start` on of a row as it stands, from the columns below `columns` and the edge right of them.
 pub fn draw_part(
+    tear: Tear,
     right: bool,
     table: &[u16; 256],
     texture: &[u16],
@@ -531,15 +542,16 @@ pub fn draw_part(
     fronts: &mut [u8],
     flags: &mut [u8],
 )
-    requires { ⌜ Ready (line (now table) (now texture) (now depths)) ⌝ }
+    requires { ⌜ Ready (line tear (now table) (now texture) (now depths)) ⌝ }
     requires { ⌜ (0 < columns) × ((columns ≤ length (now depths)) × ((Edged (now table) (seen right (now depths)) columns edge) × (start + length (now samples) ≤ firstAt (edge .limit)))) ⌝ }
     requires { ⌜ (length (now fronts) ≡ length (now samples)) × (length (now flags) ≡ length (now samples)) ⌝ }
-    ensures { λ _. ⌜ Painted (λ i. pixelBelow (line (now (table .entry)) (seen right (now (texture .entry))) (seen right (now (depths .entry)))) columns edge (start + i)) 0 (length (now (samples .entry)))
+    ensures { λ _. ⌜ Painted (λ i. pixelBelow (line tear (now (table .entry)) (seen right (now (texture .entry))) (seen right (now (depths .entry)))) columns edge (start + i)) 0 (length (now (samples .entry)))
         (seen right (now (samples .entry))) (seen right (now (fronts .entry))) (seen right (now (flags .entry)))
         (seen right (now (samples .exit))) (seen right (now (fronts .exit))) (seen right (now (flags .exit))) ⌝ }
 {
     let from = pair_at(right, table, depths, columns - 1, edge);
     draw_span(
+        tear,
         right,
         table,
         texture,
@@ -556,6 +568,7 @@ pub fn draw_part(
 
 // Draws the samples, front depths and marks of a whole row.
 pub fn draw_view_row(
+    tear: Tear,
     right: bool,
     table: &[u16; 256],
     texture: &[u16],
@@ -564,9 +577,9 @@ pub fn draw_view_row(
     fronts: &mut [u8],
     flags: &mut [u8],
 )
-    requires { ⌜ Ready (line (now table) (now texture) (now depths)) ⌝ }
+    requires { ⌜ Ready (line tear (now table) (now texture) (now depths)) ⌝ }
     requires { ⌜ (length (now samples) ≡ length (now depths)) × ((length (now fronts) ≡ length (now depths)) × (length (now flags) ≡ length (now depths))) ⌝ }
-    ensures { λ _. ⌜ Shows (viewRow right (line (now (table .entry)) (now (texture .entry)) (now (depths .entry)))) (now (samples .exit)) (now (fronts .exit)) (now (flags .exit)) ⌝ }
+    ensures { λ _. ⌜ Shows (viewRow right (line tear (now (table .entry)) (now (texture .entry)) (now (depths .entry)))) (now (samples .exit)) (now (fronts .exit)) (now (flags .exit)) ⌝ }
 {
     let w = depths.len();
     let end = Edge {
@@ -574,6 +587,7 @@ pub fn draw_view_row(
         column: w,
     };
     draw_part(
+        tear,
         right,
         table,
         texture,
@@ -589,6 +603,7 @@ pub fn draw_view_row(
 
 // Draws a whole row with its limits.
 pub fn draw_row(
+    tear: Tear,
     right: bool,
     table: &[u16; 256],
     texture: &[u16],
@@ -598,12 +613,12 @@ pub fn draw_row(
     flags: &mut [u8],
     limits: &mut [i16],
 )
-    requires { ⌜ Ready (line (now table) (now texture) (now depths)) ⌝ }
+    requires { ⌜ Ready (line tear (now table) (now texture) (now depths)) ⌝ }
     requires { ⌜ (length (now samples) ≡ length (now depths)) × ((length (now fronts) ≡ length (now depths)) × ((length (now flags) ≡ length (now depths)) × (length (now limits) ≡ length (now depths)))) ⌝ }
-    ensures { λ _. ⌜ Drawn (viewRow right (line (now (table .entry)) (now (texture .entry)) (now (depths .entry)))) (now (samples .exit)) (now (fronts .exit)) (now (flags .exit)) (now (limits .exit)) ⌝ }
+    ensures { λ _. ⌜ Drawn (viewRow right (line tear (now (table .entry)) (now (texture .entry)) (now (depths .entry)))) (now (samples .exit)) (now (fronts .exit)) (now (flags .exit)) (now (limits .exit)) ⌝ }
 {
     let w = depths.len();
-    draw_view_row(right, table, texture, depths, samples, fronts, flags);
+    draw_view_row(tear, right, table, texture, depths, samples, fronts, flags);
     let high = 4 * w as u32 + 1024;
     draw_limits(right, table, depths, w, high, limits);
 }

@@ -4,6 +4,7 @@ use mathlib.Core.Path.{_≡_}
 use mathlib.Core.Bool.{false}
 use mathlib.Core.List.{List, [], _∷_, _++_}
 use lib.ListN.{getD}
+use Rattle.model.specs.declared.Tear.{Tear}
 use Rattle.model.specs.Lists.{listOf, rows}
 use Rattle.model.specs.Row.{Row, line}
 use Rattle.model.specs.Views.{viewRow}
@@ -13,9 +14,13 @@ use Rattle.rowtext.specs.Format.{RowText, Valid, textOf, lineOf}
 unfoldable pub plainTable : List ℕ
 plainTable = listOf (λ d. d) 256
 
--- what the left view shows of a row, drawn with this table
+-- The printer keeps the widest gap of 8 and the distance of 1 (document 02, card 11).
+abbrev pub plainTear : Tear
+plainTear = record { gap = 8; distance = 1 }
+
+-- what the left view shows of a row, drawn with these
 unfoldable pub drawnRow : RowText → Row
-drawnRow r = viewRow false (line plainTable (r .samples) (r .depths))
+drawnRow r = viewRow false (line plainTear plainTable (r .samples) (r .depths))
 
 -- `row ` and `bad input`, as bytes
 abbrev pub rowWord : List ℕ

@@ -7,7 +7,7 @@ use Rattle.model.specs.Row.{Row}
 use Rattle.model.specs.Marks.{markAt}
 use Rattle.model.specs.declared.Settings.{Settings}
 use Rattle.rowtext.specs.Format.{lineOf}
-use Rattle.rowprint.specs.Printed.{plainTable}
+use Rattle.rowprint.specs.Printed.{plainTear, plainTable}
 
 -- The bytes xs were written after the first `at`, at most `most` of them; `next` is past them.
 pub record Put (most : ℕ) (before : List ℕ) (at : ℕ) (xs after : List ℕ) (next : ℕ) : Type 0 where
@@ -20,6 +20,7 @@ pub record Plain (w : ℕ) (s : Settings) : Type 0 where
   pub width-is : s .w ≡ w
   pub left-is : s .left ≡ plainTable
   pub right-is : s .right ≡ plainTable
+  pub tear-is : s .tear ≡ plainTear
 
 -- a position's line, from samples, packed marks and front depths
 unfoldable pub shownLine : List ℕ → List ℕ → List ℕ → ℕ → List ℕ

@@ -1,5 +1,6 @@
 // The row printer: what is printed for a text, and a run from a descriptor to standard output.
 use model::Settings;
+use model::Tear;
 use rowtext::Parsed;
 ghost use mathlib.Core.Path.{_≡_};
 ghost use mathlib.Core.Bool.{false};
@@ -12,7 +13,7 @@ ghost use Rattle.model.specs.Row.{line};
 ghost use Rattle.model.specs.Views.{viewRow};
 ghost use Rattle.rowtext.specs.Format.{rowText, decimal, lineOf};
 ghost use Rattle.rowtext.specs.Format.{digit as Format·digit};
-ghost use Rattle.rowprint.specs.Printed.{plainTable, headerOf, printed, Answers};
+ghost use Rattle.rowprint.specs.Printed.{plainTear, plainTable, headerOf, printed, Answers};
 ghost use Rattle.rowprint.specs.Steps.{Put, Plain, Shows, shownLine};
 
 // What the left view shows of a row: samples, packed marks and front depths.
@@ -48,6 +49,10 @@ fn settings(w: usize) -> Settings
         right: entries,
         share: 0,
         tolerance: 0,
+        tear: Tear {
+            gap: 8,
+            distance: 1,
+        },
         total: 0,
     }
 }
@@ -68,7 +73,7 @@ fn blank() -> [u8; 64]
 // The left view of a row.
 fn draw(w: usize, texture: &[u16], depths: &[u8]) -> Drawn
     requires { ⌜ (1 ≤ w) × (w ≤ 64) × (length (now texture) ≡ w) × (length (now depths) ≡ w) ⌝ }
-    ensures { λ r. ⌜ Shows (viewRow false (line plainTable (now (texture .entry)) (now (depths .entry)))) w (r .samples) (r .marks) (r .fronts) ⌝ }
+    ensures { λ r. ⌜ Shows (viewRow false (line plainTear plainTable (now (texture .entry)) (now (depths .entry)))) w (r .samples) (r .marks) (r .fronts) ⌝ }
 {
     let mut samples = blank_samples();
     let mut marks = blank();

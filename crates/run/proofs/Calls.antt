@@ -1,13 +1,14 @@
--- One call on a session that is as a fresh OPEN over d leaves it: from its promise, what it answers and leaves. 1 to 4 and 8 never apply.
---     open-ready, open-leaves     OPEN leaves such a session
---     either                      the number of some tests and a rest is that of the tests or the rest
---     get-reply                   GET
---     Edit, set-edit, take-edit   SET and TAKE BACK
---     edit-reply, edit-after, ..  what these answer and leave, by the number
+-- One call on a session that is as a fresh OPEN of the plain record leaves it: from its promise, what it answers and leaves. 1 and 8 never apply, nor what OPEN or
+-- the last accepted MOVE has tested.
+--     fill-ready, fill-leaves         OPEN and MOVE leave such a session
+--     either                          the number of some tests and a rest is that of the tests or the rest
+--     Done, by-number, done-reply ..  what is shown of a call in both kinds of run, and what it answers and leaves by the number
+--     get-done, set-done, ..          so of each
 use Prim.Native.Nat.{ℕ, _<_}
 use mathlib.Core.Path.{_≡_, refl, ap, sym, _∙_, subst}
 use mathlib.Core.Bool.{Bool, true, false, cond}
 use mathlib.Core.List.{List}
+use mathlib.Core.Logic.{inl, inr}
 use lib.ListN.{length}
 use lib.Dec.{eqb}
 use lib.IntN.{ℤ, pos}
@@ -18,13 +19,13 @@ use Rattle.model.specs.declared.Candidate.{Candidate}
 use Rattle.model.specs.declared.Opened.{Opened}
 use Rattle.model.specs.declared.Trial.{Trial}
 use Rattle.model.specs.declared.Edited.{Edited}
-use Rattle.model.specs.Planes.{Pictures, Depths, Held, State, withTotal, readHeld}
+use Rattle.model.specs.Planes.{Pictures, Depths, Held, State, area, withTotal, withSeat, withReference, readHeld}
 use Rattle.model.specs.Fresh.{fresh, freshTotal}
 use Rattle.model.specs.Candidates.{filled}
 use Rattle.model.specs.Blocks.{written, oldDepths, changeOf}
-use Rattle.model.specs.Journals.{newest, recordView, recordBlock, recordDepths, saved, takenBack}
-use Rattle.model.specs.Refusals.{numberOf, unless, wordsOk, picturesOk, openNumber, ownThen, savingThen, takingThen, callThen, earlyNumber, takeBackEarly, inRange}
-use Rattle.model.specs.Promises.{EightBit, OpenPost, Sound, GetPost, EditPost, SetPost, TakeBackPost}
+use Rattle.model.specs.Journals.{newest, recordView, recordBlock, recordDepths, saved, takenBack, emptied}
+use Rattle.model.specs.Refusals.{numberOf, unless, tablesOk, shareOk, tearOk, wordsOk, pictureOk, picturesOk, openNumber, ownThen, savingThen, takingThen, callThen, earlyNumber, takeBackEarly, inRange}
+use Rattle.model.specs.Promises.{FillPost, Sound, GetPost, EditPost, SetPost, TakeBackPost, MovePost}
 use Rattle.model.proofs.Choice.{bool-cases}
 use Rattle.model.proofs.Fresh.{fresh-total, freshTotal-total}
 use Rattle.model.proofs.Written.{written-total}
@@ -32,38 +33,41 @@ use Rattle.model.proofs.Refusals.{unless-true, Before, Inside, Own, passed, res
 use Rattle.model.proofs.Journals.{saving-sides, taking-sides}
 use Rattle.model.proofs.Readings.{sound-read}
 use Rattle.model.proofs.Promises.{edit-settings}
-use Rattle.run.specs.Run.{replyOf, leaves, plainAnswer, plainState, Local, Edits}
-use Rattle.run.proofs.Steps.{Ready, ready, ready-common, changeOf-total, local-written}
+use Rattle.run.specs.Run.{Reply, Event, Plain, plain, replyOf, leaves, picturesAfter, moveNumber, plainAnswer, plainState, Local, Refuses, Edits, Moves, OfMove}
+use Rattle.run.proofs.Steps.{Ready, ready, ready-written, ready-common, ready-move, ready-moved, changeOf-total, state-total, local-written}
 
--- ---- OPEN
+-- ---- OPEN and MOVE
 
-module _ (s : Settings) (p : Pictures) (d : Depths) (h₀ h : Held) (j₀ j : List ℕ) (r : Opened) (post : OpenPost s p d h₀ h j₀ j r) (accepted : numberOf (r .refusal) ≡ 0) where
-  none : openNumber s p d h₀ j₀ ≡ 0
+module _ (s n : Settings) (p : Pictures) (d : Depths) (h₀ h : Held) (j₀ j : List ℕ) (o : Opened) (post : FillPost s n p d h₀ h j₀ j o) (accepted : numberOf (o .refusal) ≡ 0) where
+  none : openNumber n p d h₀ j₀ ≡ 0
   none = sym (post .number) ∙ accepted
 
-  pub open-ready : Ready s p d
-  open-ready = ready s p d h₀ j₀ none
+  pub fill-ready : Ready (plain n p d)
+  fill-ready = ready n p d h₀ j₀ none
 
-  pub open-leaves : record { settings = r .settings; depths = d; held = h } ≡ plainState s p d
+  pub fill-leaves : leaves (o .settings) d h ≡ plainState (plain n p d)
   unfolding plainState
-  open-leaves = rw (post .held accepted, post .settings accepted)
+  fill-leaves = rw (post .held accepted, post .settings accepted)
 
-  pub open-words : 0 < length j₀
-  open-words =
+  pub fill-words : 0 < length j₀
+  fill-words =
       ltb-true 0 (length j₀)
-      (unless-true (wordsOk j₀) 12 _ (rest-passed (common-before s p d h₀) (unless (wordsOk j₀) 13 (unless (picturesOk p) 21 0)) none))
+      (unless-true (wordsOk j₀) 12 _ (rest-passed (common-before n p d h₀) (unless (wordsOk j₀) 13 (unless (picturesOk p) 21 0)) none))
 
 -- ---- by the number
 
-module _ {A B : Type 0} where
-  -- what an accepted call leaves and what a refused one leaves; m is the call's number, and n what it is by the plain record
-  by-number : (f : B → A) (n m : ℕ) (x : A) (yea nay : B) → m ≡ n → (m ≡ 0 → x ≡ f yea) → ((m ≡ 0 → ⊥) → x ≡ f nay) → x ≡ f (cond (eqb n 0) yea nay)
-  by-number f n m x yea nay e some none =
-      bool-cases (eqb n 0) (λ t. rw t (some (e ∙ eqb-true n 0 t))) (λ t. rw t (none (λ q. eqb-false n 0 t (sym e ∙ q))))
+module _ {A : Type 0} where
+  -- what an accepted call makes, and what a refused one leaves
+  pub chosen : (P : A → Type 0) (n : ℕ) (yea nay : A) → (n ≡ 0 → P yea) → ((n ≡ 0 → ⊥) → P nay) → P (cond (eqb n 0) yea nay)
+  chosen P n yea nay some none = bool-cases (eqb n 0) (λ t. rw t (some (eqb-true n 0 t))) (λ t. rw t (none (eqb-false n 0 t)))
 
-answered : (n m : ℕ) (change found : ℤ) → m ≡ n → (m ≡ 0 → change ≡ found) → ((m ≡ 0 → ⊥) → change ≡ pos 0) → record { number = m; change = change } ≡ plainAnswer n found
-unfolding plainAnswer
-answered n m change found e some none = let c = by-number (λ (x : ℤ). x) n m change found (pos 0) e some none in rw (e, c)
+  -- the pictures after a MOVE, where f are those of a record
+  pub next-pictures :
+      (f : A → Pictures) {m : ℕ} (n : ℕ) (yea nay : A) {q : Pictures} (reference : List ℕ) → m ≡ n → q ≡ f nay → withReference (f nay) reference ≡ f yea →
+      picturesAfter m q reference ≡ f (cond (eqb n 0) yea nay)
+  next-pictures f n yea nay {q = q} reference e same new =
+      ap (λ (m : ℕ). picturesAfter m q reference) e
+      ∙ bool-cases (eqb n 0) (λ t. rw (t, same) new) (λ t. rw t same)
 
 -- the number of some tests and a rest is that of the tests or the rest
 pub either : (P : ℕ → Type 0) {f : ℕ → ℕ} → Before f → (rest : ℕ) → P (f 0) → P rest → P (f rest)
@@ -75,6 +79,19 @@ pub unless-either : (P : ℕ → Type 0) (t : Bool) (k rest : ℕ) → P k → P
 unless-either P true k rest u v = v
 unless-either P false k rest u v = u
 
+-- the numbers of MOVE; 13 goes by the journal
+pub move-usual :
+    (P : ℕ → Type 0) → ((n : ℕ) → OfMove n → P n) → (s to : Settings) (reference j : List ℕ) → (wordsOk j ≡ false → P 13) → P (moveNumber s to reference j)
+unfolding moveNumber
+move-usual P of s to reference j thirteen =
+    unless-either P (eqb (length reference) (area s)) 2 _ (of 2 (inr (inl refl)))
+    (unless-either P (tablesOk to) 3 _ (of 3 (inr (inr (inl refl))))
+    (unless-either P (shareOk to) 4 _ (of 4 (inr (inr (inr (inl refl)))))
+    (unless-either P (tearOk (to .tear)) 20 _ (of 20 (inr (inr (inr (inr (inl refl))))))
+    (bool-cases (wordsOk j)
+    (λ t. rw t (unless-either P (pictureOk reference) 21 0 (of 21 (inr (inr (inr (inr (inr refl)))))) (of 0 (inl refl))))
+    (λ t. rw t (thirteen t))))))
+
 -- a test that holds wherever those before it do never applies
 settled : {f : ℕ → ℕ} → Before f → (t : Bool) (rest : ℕ) → (f 0 ≡ 0 → t ≡ true) → f (unless t 8 rest) ≡ f rest
 settled {f = f} a t rest h =
@@ -85,48 +102,96 @@ settled {f = f} a t rest h =
 pub set-own : (s : Settings) (v : ℕ) (b : Block) (c : Candidate) (n rest : ℕ) → ownThen s v b c n rest ≡ 0 → Own s v b c n
 set-own s v b c n rest e = own-facts s v b c n (passed (own-before s v b c n) rest e)
 
--- ---- SET and TAKE BACK, as the plain record has them
+-- ---- a call, as the plain record has it
 
--- The call's number is n. Accepted, it wrote the depths c into block b of view v and left the journal `new`; refused, all is as it was. j is the journal at
--- entry, k at exit; e and g are the planes at exit.
-pub record Edit (s : Settings) (p : Pictures) (d : Depths) (v : ℕ) (b : Block) (c : List ℕ) (n : ℕ) (j new k : List ℕ) (r : Edited) (e : Depths) (g : Held) : Type 0 where
-  pub number : numberOf (r .refusal) ≡ n
-  pub change : numberOf (r .refusal) ≡ 0 → r .change ≡ changeOf s p d v b c
-  pub refused-change : (numberOf (r .refusal) ≡ 0 → ⊥) → r .change ≡ pos 0
-  pub after : numberOf (r .refusal) ≡ 0 → leaves r e g ≡ plainState s p (written s v b c d)
-  pub refused-after : (numberOf (r .refusal) ≡ 0 → ⊥) → leaves r e g ≡ plainState s p d
-  pub journal : numberOf (r .refusal) ≡ 0 → k ≡ new
-  pub refused-journal : (numberOf (r .refusal) ≡ 0 → ⊥) → k ≡ j
-  pub eight-bit : EightBit e
+-- The event e of a call on the session of the record r. Its number is n. Accepted, the call answered the change x and left the session of the record `next`, ready
+-- too, and the journal `new`; refused, all is as it was. j is the journal at entry.
+pub record Done (r next : Plain) (n : ℕ) (x : ℤ) (j new : List ℕ) (e : Event) : Type 0 where
+  pub number : e .reply .number ≡ n
+  pub change : e .reply .number ≡ 0 → e .reply .change ≡ x
+  pub refused-change : (e .reply .number ≡ 0 → ⊥) → e .reply .change ≡ pos 0
+  pub after : e .reply .number ≡ 0 → e .after ≡ plainState next
+  pub refused-after : (e .reply .number ≡ 0 → ⊥) → e .after ≡ plainState r
+  pub journal : e .reply .number ≡ 0 → e .journal ≡ new
+  pub refused-journal : (e .reply .number ≡ 0 → ⊥) → e .journal ≡ j
+  pub ready : e .reply .number ≡ 0 → Ready next
 
-module _ {s : Settings} {p : Pictures} {d : Depths} {v : ℕ} {b : Block} {c : List ℕ} {n : ℕ} {j new k : List ℕ} {r : Edited} {e : Depths} {g : Held} (h : Edit s p d v b c n j new k r e g) where
-  pub edit-reply : (change : ℤ) → (n ≡ 0 → changeOf s p d v b c ≡ change) → replyOf (r .refusal) (r .change) ≡ plainAnswer n change
-  edit-reply change same =
-      answered n (numberOf (r .refusal)) (r .change) change (h .number) (λ z. h .change z ∙ same (sym (h .number) ∙ z)) (h .refused-change)
+-- field by field
+reply-same : {a b : Reply} → a .number ≡ b .number → a .change ≡ b .change → a ≡ b
+reply-same n c = rw (← n, ← c)
 
-  -- for a record of which f is the depths, or the journal: it is `yea` after an accepted call, and stays `nay` after a refused one
+pub event-same : {a b : Event} → a .reply ≡ b .reply → a .after ≡ b .after → a .journal ≡ b .journal → a ≡ b
+event-same r n j = rw (← r, ← n, ← j)
+
+module _ {r next : Plain} {n : ℕ} {x : ℤ} {j new : List ℕ} {e : Event} (h : Done r next n x j new e) where
   module _ {A : Type 0} where
-    pub edit-after : (f : A → Depths) (yea nay : A) → (n ≡ 0 → written s v b c d ≡ f yea) → d ≡ f nay → leaves r e g ≡ plainState s p (f (cond (eqb n 0) yea nay))
-    edit-after f yea nay some none =
-        by-number (λ (x : A). plainState s p (f x)) n (numberOf (r .refusal)) (leaves r e g) yea nay (h .number)
-        (λ z. h .after z ∙ ap (plainState s p) (some (sym (h .number) ∙ z))) (λ z. h .refused-after z ∙ ap (plainState s p) none)
+    pub by-number : (P : A → Type 0) (yea nay : A) → (e .reply .number ≡ 0 → P yea) → ((e .reply .number ≡ 0 → ⊥) → P nay) → P (cond (eqb n 0) yea nay)
+    by-number P yea nay some none = chosen P n yea nay (λ q. some (h .number ∙ q)) (λ q. none (λ y. q (sym (h .number) ∙ y)))
 
-    pub edit-journal : (f : A → List ℕ) (yea nay : A) → new ≡ f yea → j ≡ f nay → k ≡ f (cond (eqb n 0) yea nay)
-    edit-journal f yea nay some none =
-        by-number f n (numberOf (r .refusal)) k yea nay (h .number) (λ z. h .journal z ∙ some) (λ z. h .refused-journal z ∙ none)
+  pub done-reply : e .reply ≡ plainAnswer n x
+  unfolding plainAnswer
+  done-reply = reply-same (h .number) (by-number (λ (y : ℤ). e .reply .change ≡ y) x (pos 0) (h .change) (h .refused-change))
 
-  -- it changes no more than document 01 allows
-  pub edit-kept : Ready s p d → (n ≡ 0 → Inside s b) → Edits s (plainState s p d) j v b (record { reply = replyOf (r .refusal) (r .change); after = leaves r e g; journal = k })
-  edit-kept ok inside = (
-    λ z. (h .refused-after z, h .refused-journal z),
-    λ z.
-        let i = inside (sym (h .number) ∙ z) in
-        subst (λ (x : State). Local s v b (plainState s p d) x) (sym (h .after z)) (local-written s p d ok v b c (record { some = i .width; inside = i .right })),
-  )
+  pub done-after : e .after ≡ plainState (cond (eqb n 0) next r)
+  done-after = by-number (λ (y : Plain). e .after ≡ plainState y) next r (h .after) (h .refused-after)
+
+  pub done-journal : e .journal ≡ cond (eqb n 0) new j
+  done-journal = by-number (λ (y : List ℕ). e .journal ≡ y) new j (h .journal) (h .refused-journal)
+
+  pub done-ready : Ready r → Ready (cond (eqb n 0) next r)
+  done-ready ok = by-number Ready next r (h .ready) (λ z. ok)
+
+  pub done-refuses : Refuses (plainState r) j e
+  done-refuses z = (h .refused-after z, h .refused-journal z)
+
+  -- where the record that it leaves and the change are others by name only
+  pub done-as : (other : Plain) (found : ℤ) → (n ≡ 0 → next ≡ other) → (n ≡ 0 → x ≡ found) → Done r other n found j new e
+  done-as other found same same-change =
+      record {
+        number = h .number;
+        change = λ z. h .change z ∙ same-change (sym (h .number) ∙ z);
+        refused-change = h .refused-change;
+        after = λ z. h .after z ∙ ap plainState (same (sym (h .number) ∙ z));
+        refused-after = h .refused-after;
+        journal = h .journal;
+        refused-journal = h .refused-journal;
+        ready = λ z. subst Ready (same (sym (h .number) ∙ z)) (h .ready z);
+      }
+
+-- the record with the depths c written
+abbrev pub edited : Plain → ℕ → Block → List ℕ → Plain
+edited r v b c = plain (r .settings) (r .pictures) (written (r .settings) v b c (r .depths))
+
+-- a call that writes c into block b of view v changes no more than document 01 allows
+pub edit-kept :
+    (r : Plain) → Ready r → (v : ℕ) (b : Block) (c : List ℕ) {n : ℕ} {x : ℤ} {j new : List ℕ} {e : Event} → Done r (edited r v b c) n x j new e →
+    (n ≡ 0 → Inside (r .settings) b) → Edits (plainState r) j v b e
+unfolding plainState
+edit-kept r ok v b c h inside = (
+  done-refuses h,
+  λ z.
+      let i = inside (sym (h .number) ∙ z) in
+      subst (λ (x : State). Local (plainState r .settings) v b (plainState r) x) (sym (h .after z))
+      (local-written (r .settings) (r .pictures) (r .depths) (ok .depths) v b c (record { some = i .width; inside = i .right })),
+)
+
+-- a call after which the depths are the same
+pub move-kept : {r next : Plain} {n : ℕ} {x : ℤ} {j new : List ℕ} {e : Event} → Done r next n x j new e → next .depths ≡ r .depths → Moves (plainState r) j e
+unfolding plainState
+move-kept h same = (done-refuses h, λ z. ap (λ (x : State). x .depths) (h .after z) ∙ same)
 
 -- ---- the session
 
-module _ (s : Settings) (p : Pictures) (d : Depths) (ok : Ready s p d) where
+module _ (r : Plain) (ok : Ready r) where
+  abbrev s : Settings
+  s = r .settings
+
+  abbrev p : Pictures
+  p = r .pictures
+
+  abbrev d : Depths
+  d = r .depths
+
   abbrev S : Settings
   S = withTotal s (freshTotal s p d)
 
@@ -139,45 +204,36 @@ module _ (s : Settings) (p : Pictures) (d : Depths) (ok : Ready s p d) where
   sound-as-read : Sound S p d (readHeld F)
   sound-as-read = sound-read S p d (ok .depths) (ok .share) F sound
 
-  -- ---- GET, and the numbers of GET and SET
+  -- ---- the numbers of GET and SET
 
   module _ (v : ℕ) (b : Block) (c : Candidate) (x : List ℕ) where
     early : earlyNumber S p d F v b c (length x) ≡ ownThen s v b c (length x) 0
-    early = ready-common s p d _ _ ok ∙ own-total s _ v b c (length x) 0
+    early = ready-common r ok _ _ ∙ own-total s _ v b c (length x) 0
 
     call :
         (k : ℤ) (rest : ℕ) → (earlyNumber S p d F v b c (length x) ≡ 0 → Sound S p d (readHeld F) → inRange S k ≡ true) →
         callThen S p d F v b c (length x) k rest ≡ ownThen s v b c (length x) rest
     call k rest h =
-        ready-common s p d _ _ ok ∙ own-total s _ v b c (length x) _
+        ready-common r ok _ _ ∙ own-total s _ v b c (length x) _
         ∙ settled (own-before s v b c (length x)) (inRange S k) rest (λ e. h (early ∙ e) sound-as-read)
-
-    pub get-reply :
-        (st : State) → st ≡ plainState s p d → (r : Trial) → GetPost (st .settings) p (st .depths) (st .held) v b c x r →
-        replyOf (r .refusal) (r .change) ≡ plainAnswer (ownThen s v b c (length x) 0) (changeOf s p d v b (filled b c x))
-    unfolding plainState
-    get-reply st i r post =
-        let h = subst (λ (q : State). GetPost (q .settings) p (q .depths) (q .held) v b c x r) i post in
-        answered (ownThen s v b c (length x) 0) (numberOf (r .refusal)) (r .change) _ (h .number ∙ call (h .found) 0 (h .in-range))
-        (λ z. h .change z ∙ h .decided (call-zero S p d F v b c (length x) (h .found) 0 (sym (h .number) ∙ z)) sound-as-read ∙ changeOf-total s _ p d v b (filled b c x))
-        (h .refused)
 
   -- ---- what SET and TAKE BACK have in common; n is the number by the plain record
 
   edit :
-      (v : ℕ) (b : Block) (c : List ℕ) (early : ℕ) (found : ℤ) (r : Edited) (e : Depths) (g : Held) → EditPost S p d e F g v b c early found r →
-      (numberOf (r .refusal) ≡ 0 → early ≡ 0) → (n : ℕ) → numberOf (r .refusal) ≡ n → (j new k : List ℕ) → ((numberOf (r .refusal) ≡ 0 → ⊥) → k ≡ j) →
-      (numberOf (r .refusal) ≡ 0 → k ≡ new) → Edit s p d v b c n j new k r e g
+      (v : ℕ) (b : Block) (c : List ℕ) (early : ℕ) (found : ℤ) (t : Edited) (e : Depths) (g : Held) → EditPost S p d e F g v b c early found t →
+      (numberOf (t .refusal) ≡ 0 → early ≡ 0) → (n : ℕ) → numberOf (t .refusal) ≡ n → (j new k : List ℕ) → ((numberOf (t .refusal) ≡ 0 → ⊥) → k ≡ j) →
+      (numberOf (t .refusal) ≡ 0 → k ≡ new) →
+      Done r (edited r v b c) n (changeOf s p d v b c) j new (record { reply = replyOf (t .refusal) (t .change); after = leaves (t .settings) e g; journal = k })
   unfolding plainState
-  edit v b c early found r e g h tested n number j new k none some =
+  edit v b c early found t e g h tested n number j new k none some =
       record {
         number = number;
         change = λ z. h .change z ∙ h .decided (tested z) sound-as-read ∙ changeOf-total s _ p d v b c;
         refused-change = h .refused-change;
         after = λ z.
             let w : e ≡ written s v b c d = h .depths z ∙ written-total s _ v b c d in
-            let q : r .settings ≡ withTotal s (freshTotal s p (written s v b c d)) =
-            edit-settings S p d e F g v b c early found r h (tested z) z (ok .depths) (ok .share) sound
+            let q : t .settings ≡ withTotal s (freshTotal s p (written s v b c d)) =
+            edit-settings S p d e F g v b c early found t h (tested z) z (ok .depths) (ok .share) sound
             ∙ ap (withTotal s) (ap (freshTotal S p) (written-total s _ v b c d) ∙ freshTotal-total s _ p (written s v b c d)) in
             let y : g ≡ fresh s p (written s v b c d) =
             h .held z sound ∙ ap (fresh S p) (written-total s _ v b c d) ∙ fresh-total s _ p (written s v b c d) in
@@ -185,29 +241,74 @@ module _ (s : Settings) (p : Pictures) (d : Depths) (ok : Ready s p d) where
         refused-after = λ z. rw (h .refused-depths z, h .refused-held z, h .refused-settings z);
         journal = some;
         refused-journal = none;
-        eight-bit = h .eight-bit;
+        ready = λ z. ready-written r ok v b c;
       }
 
-  module _ (st : State) (i : st ≡ plainState s p d) (j k : List ℕ) (r : Edited) (e : Depths) (g : Held) where
-    pub set-edit :
-        (v : ℕ) (b : Block) (c : Candidate) (x : List ℕ) → SetPost (st .settings) p (st .depths) e (st .held) g j k v b c x r →
-        Edit s p d v b (filled b c x) (ownThen s v b c (length x) (savingThen s b j 0)) j (saved j v b (oldDepths s v b d)) k r e g
-    unfolding plainState
-    set-edit v b c x post =
-        let h = subst (λ (q : State). SetPost (q .settings) p (q .depths) e (q .held) g j k v b c x r) i post in
-        let n = h .number ∙ call v b c x (h .found) _ (h .edit .in-range) ∙ ap (ownThen s v b c (length x)) (saving-sides S s b j 0 refl refl) in
-        edit v b (filled b c x) _ _ r e g (h .edit) (λ z. call-zero S p d F v b c (length x) (h .found) (savingThen S b j 0) (sym (h .number) ∙ z))
-        _ n j _ k (h .refused-journal) (h .journal)
+  -- ---- each call, on that session and the journal J
 
-    pub take-edit :
-        TakeBackPost (st .settings) p (st .depths) e (st .held) g j k r →
-        Edit s p d (recordView j (newest j)) (recordBlock j (newest j)) (recordDepths j (newest j)) (takingThen s j 0) j (takenBack j) k r e g
+  module _ (J : List ℕ) {q : Pictures} {st : State} {j : List ℕ} (same : q ≡ p) (now : st ≡ plainState r) (lent : j ≡ J) where
+    carried : (P : Pictures → State → List ℕ → Type 0) → P q st j → P p (plainState r) J
+    carried P x = subst (P p (plainState r)) lent (subst (λ (y : State). P p y j) now (subst (λ (y : Pictures). P y st j) same x))
+
+    pub get-done :
+        (v : ℕ) (b : Block) (c : Candidate) (x : List ℕ) (t : Trial) → GetPost (st .settings) q (st .depths) (st .held) v b c x t →
+        Done r r (ownThen s v b c (length x) 0) (changeOf s p d v b (filled b c x)) J J (record { reply = replyOf (t .refusal) (t .change); after = st; journal = j })
     unfolding plainState
-    take-edit post =
-        let h = subst (λ (q : State). TakeBackPost (q .settings) p (q .depths) e (q .held) g j k r) i post in
-        let early : takeBackEarly S p d F j ≡ takingThen s j 0 = ready-common s p d _ _ ok ∙ taking-sides S s j 0 refl refl in
+    get-done v b c x t post =
+        let h = carried (λ (p : Pictures) (y : State) (j : List ℕ). GetPost (y .settings) p (y .depths) (y .held) v b c x t) post in
+        record {
+          number = h .number ∙ call v b c x (h .found) 0 (h .in-range);
+          change = λ z.
+              h .change z ∙ h .decided (call-zero S p d F v b c (length x) (h .found) 0 (sym (h .number) ∙ z)) sound-as-read
+              ∙ changeOf-total s _ p d v b (filled b c x);
+          refused-change = h .refused;
+          after = λ z. now;
+          refused-after = λ z. now;
+          journal = λ z. lent;
+          refused-journal = λ z. lent;
+          ready = λ z. ok;
+        }
+
+    pub set-done :
+        (v : ℕ) (b : Block) (c : Candidate) (x : List ℕ) (t : Edited) (e : Depths) (g : Held) (k : List ℕ) → SetPost (st .settings) q (st .depths) e (st .held) g j k v b c x t →
+        Done r (edited r v b (filled b c x)) (ownThen s v b c (length x) (savingThen s b J 0)) (changeOf s p d v b (filled b c x)) J (saved J v b (oldDepths s v b d)) (record { reply = replyOf (t .refusal) (t .change); after = leaves (t .settings) e g; journal = k })
+    unfolding plainState
+    set-done v b c x t e g k post =
+        let h = carried (λ (p : Pictures) (y : State) (j : List ℕ). SetPost (y .settings) p (y .depths) e (y .held) g j k v b c x t) post in
+        let n = h .number ∙ call v b c x (h .found) _ (h .edit .in-range) ∙ ap (ownThen s v b c (length x)) (saving-sides S s b J 0 refl refl) in
+        edit v b (filled b c x) _ _ t e g (h .edit) (λ z. call-zero S p d F v b c (length x) (h .found) (savingThen S b J 0) (sym (h .number) ∙ z))
+        _ n J _ k (h .refused-journal) (h .journal)
+
+    pub take-done :
+        (t : Edited) (e : Depths) (g : Held) (k : List ℕ) → TakeBackPost (st .settings) q (st .depths) e (st .held) g j k t →
+        Done r (edited r (recordView J (newest J)) (recordBlock J (newest J)) (recordDepths J (newest J))) (takingThen s J 0) (changeOf s p d (recordView J (newest J)) (recordBlock J (newest J)) (recordDepths J (newest J))) J (takenBack J) (record { reply = replyOf (t .refusal) (t .change); after = leaves (t .settings) e g; journal = k })
+    unfolding plainState
+    take-done t e g k post =
+        let h = carried (λ (p : Pictures) (y : State) (j : List ℕ). TakeBackPost (y .settings) p (y .depths) e (y .held) g j k t) post in
+        let early : takeBackEarly S p d F J ≡ takingThen s J 0 = ready-common r ok _ _ ∙ taking-sides S s J 0 refl refl in
         let n =
-        h .number ∙ ready-common s p d _ _ ok ∙ taking-sides S s j _ refl refl
-        ∙ settled (taking-before s j) (inRange S (h .found)) 0 (λ z. h .edit .in-range (early ∙ z) sound-as-read) in
-        edit _ _ _ _ _ r e g (h .edit) (λ z. passed (taken-before S p d F j) (unless (inRange S (h .found)) 8 0) (sym (h .number) ∙ z))
-        _ n j _ k (h .refused-journal) (h .journal)
+        h .number ∙ ready-common r ok _ _ ∙ taking-sides S s J _ refl refl
+        ∙ settled (taking-before s J) (inRange S (h .found)) 0 (λ z. h .edit .in-range (early ∙ z) sound-as-read) in
+        edit _ _ _ _ _ t e g (h .edit) (λ z. passed (taken-before S p d F J) (unless (inRange S (h .found)) 8 0) (sym (h .number) ∙ z))
+        _ n J _ k (h .refused-journal) (h .journal)
+
+    pub move-done :
+        (to : Settings) (reference : List ℕ) (t : Opened) (g : Held) (k : List ℕ) → MovePost (st .settings) to (withReference q reference) (st .depths) (st .held) g j k t →
+        Done r (plain (withSeat s to) (withReference p reference) d) (moveNumber s to reference J) (pos 0) J (emptied J) (record { reply = replyOf (t .refusal) (pos 0); after = leaves (t .settings) (st .depths) g; journal = k })
+    unfolding plainState
+    move-done to reference t g k post =
+        let h = carried (λ (p : Pictures) (y : State) (j : List ℕ). MovePost (y .settings) to (withReference p reference) (y .depths) (y .held) g j k t) post in
+        let depths : st .depths ≡ d = ap (λ (y : State). y .depths) now in
+        let n = h .number ∙ ready-move r ok to reference J _ in
+        record {
+          number = n;
+          change = λ z. refl;
+          refused-change = λ z. refl;
+          after = λ z.
+              ap (λ (y : Depths). leaves (t .settings) y g) depths ∙ fill-leaves S (withSeat S to) (withReference p reference) d F g J k t h z
+              ∙ state-total (withSeat s to) _ (withReference p reference) d;
+          refused-after = λ z. rw (depths, h .refused-held z, h .refused-settings z);
+          journal = h .journal;
+          refused-journal = h .refused-journal;
+          ready = λ z. ready-moved r ok to reference J (sym n ∙ z);
+        }

@@ -3,7 +3,7 @@
 --     Link, Holds, Ledger                      what the journal holds
 --     ledger-ok                                13 never applies
 --     taking-none, taking-some                 12 exactly where no SET stands
---     ledger-opened, ledger-saved, ..-taken    OPEN makes it so; SET and TAKE BACK leave it so
+--     ledger-opened, ledger-saved, ..-taken    OPEN and MOVE make it so; SET and TAKE BACK leave it so
 --     taken-restores, taken-inside             what TAKE BACK writes restores, and lies within the picture
 use Prim.Native.Nat.{ℕ, _+_, _<_, _≤_}
 use mathlib.Core.Path.{_≡_, refl, ap, sym, _∙_, subst}
@@ -164,7 +164,7 @@ holds-kept s d j k same m words i (x ∷ ks) h (l, rest) =
       subst (λ (n : ℕ). Holds s d k n ks) (sym before) (holds-kept s d j k same m words (indexBefore j i) ks (omega (arith, l .after)) rest),
     )
 
--- ---- OPEN, SET and TAKE BACK
+-- ---- OPEN or MOVE, SET and TAKE BACK
 
 pub ledger-opened : (s : Settings) (d : Depths) (j : List ℕ) → 0 < length j → EightBit d → Ledger s d (emptied j) []
 unfolding Holds inTurn

@@ -1,92 +1,110 @@
--- Term 3 from the promises of OPEN, GET and SET alone.
---     session-run     whatever an accepted OPEN left and each call of the list answered and left by its promise
---     halts           a run halted after any of its calls is a run
-use Prim.Native.Nat.{ℕ, zero, suc}
-use mathlib.Core.Path.{_≡_, refl, ap, _∙_}
-use mathlib.Core.List.{List, _∷_}
+-- Term 3 from the promises of OPEN, GET, SET and MOVE alone.
+--     session-run          whatever an accepted OPEN left and each call of the list answered and left by its promise
+--     halted-as-opened     what a run leaves is what a fresh OPEN leaves, with the settings and reference of the last accepted MOVE
+--     halted-opens         and such an OPEN is accepted
+--     halts                a run halted after any of its calls is a run
+use Prim.Native.Nat.{ℕ, zero, suc, _*_, _<_}
+use mathlib.Core.Path.{_≡_, refl, ap, sym, _∙_, subst}
+use mathlib.Core.List.{List, [], _∷_}
 use mathlib.Core.Logic.{inl, inr}
 use lib.ListN.{length, take}
-use lib.Dec.{eqb}
 use Rattle.model.specs.declared.Settings.{Settings}
-use Rattle.model.specs.declared.Block.{Block}
-use Rattle.model.specs.declared.Candidate.{Candidate}
 use Rattle.model.specs.declared.Opened.{Opened}
-use Rattle.model.specs.Planes.{Pictures, Depths, Held, State}
+use Rattle.model.specs.Marks.{markBytes}
+use Rattle.model.specs.Planes.{Pictures, Depths, Held, State, area}
 use Rattle.model.specs.Candidates.{filled}
-use Rattle.model.specs.Blocks.{written, oldDepths, changeOf}
-use Rattle.model.specs.Journals.{saved}
-use Rattle.model.specs.Refusals.{numberOf, journalOk, roomOk, ownThen, savingThen}
+use Rattle.model.specs.Refusals.{numberOf, journalOk, roomOk, openNumber, savingThen}
 use Rattle.model.specs.Promises.{OpenPost}
-use Rattle.model.proofs.Choice.{bool-cases}
-use Rattle.model.proofs.Refusals.{own-before, own-usual}
-use Rattle.run.specs.Run.{Call, Event, Run, plainNumber, plainNext, plainJournal, plainAnswer, plainReply, plainState, plainEvents, plainEnd, Kept, AllKept, Usual, AllUsual, RunPost, stateAfter}
-use Rattle.run.specs.Run.Call.{get, set}
-use Rattle.run.specs.Run.Run.{halted, got, wrote}
-use Rattle.run.proofs.Steps.{Ready, ready-written}
-use Rattle.run.proofs.Calls.{open-ready, open-leaves, either, unless-either, set-own, get-reply, set-edit, edit-reply, edit-after, edit-journal, edit-kept}
+use Rattle.model.proofs.Refusals.{HeldOf, own-before, own-usual}
+use Rattle.run.specs.Run.{Call, Event, Run, leaves, Plain, plain, plainNumber, plainAccepted, plainNext, plainJournal, plainChange, plainReply, plainState, plainEvents, plainEnd, Kept, AllKept, Usual, AllUsual, RunPost, stateAfter}
+use Rattle.run.specs.Run.Call.{get, set, move}
+use Rattle.run.specs.Run.Run.{halted, got, wrote, moved}
+use Rattle.run.proofs.Steps.{Ready, ready-open}
+use Rattle.run.proofs.Calls.{fill-ready, fill-leaves, chosen, next-pictures, either, unless-either, move-usual, set-own, Done, event-same, done-reply, done-after, done-journal, done-ready, get-done, set-done, move-done, edit-kept, move-kept}
 
--- ---- the numbers
-
-set-usual : (s : Settings) (v : ℕ) (b : Block) (c : Candidate) (x j : List ℕ) → Usual (ownThen s v b c (length x) (savingThen s b j 0))
-unfolding savingThen
-set-usual s v b c x j =
-    either Usual (own-before s v b c (length x)) (savingThen s b j 0) (inl (own-usual s v b c (length x)))
-    (unless-either Usual (journalOk s j) 13 _ (inr (inl refl)) (unless-either Usual (roomOk b j) 11 0 (inr (inr refl)) (inl (inl refl))))
+-- the numbers of a call, by the record
+call-usual : (r : Plain) (k : Call) → Usual k (plainNumber r k)
+unfolding plainNumber savingThen
+call-usual r (get v b c x) = own-usual (r .settings) v b c (length x)
+call-usual r (set v b c x j) =
+    let U : ℕ → Type 0 = Usual (set v b c x j) in
+    either U (own-before (r .settings) v b c (length x)) (savingThen (r .settings) b j 0) (inl (own-usual (r .settings) v b c (length x)))
+    (unless-either U (journalOk (r .settings) j) 13 _ (inr (inl refl)) (unless-either U (roomOk b j) 11 0 (inr (inr refl)) (inl (inl refl))))
+call-usual r (move to reference j) = move-usual (Usual (move to reference j)) (λ n u. inl u) (r .settings) to reference j (λ t. inr refl)
 
 -- ---- the list
 
+-- what is shown of the calls from the record r on
+abbrev From : Plain → List Call → List Event → State → Type 0
+From r cs es last = RunPost r (plainState r) cs es last × Ready (plainEnd r cs)
+
 -- one call more
 more :
-    (s : Settings) (p : Pictures) (d : Depths) (k : Call) (e : Event) {cs : List Call} {es : List Event} {last : State} →
-    e .reply ≡ plainReply s p d k → e .after ≡ plainState s p (plainNext s d k) → e .journal ≡ plainJournal s d k → Kept s (plainState s p d) k e →
-    Usual (plainReply s p d k .number) →
-    RunPost s p (plainNext s d k) (plainState s p (plainNext s d k)) cs es last → RunPost s p d (plainState s p d) (k ∷ cs) (e ∷ es) last
-unfolding plainEvents plainEnd AllKept AllUsual
-more s p d k e {es = es} a n j t u r =
-    let plain : Event = record { reply = plainReply s p d k; after = plainState s p (plainNext s d k); journal = plainJournal s d k } in
-    let same : e ≡ plain = rw (← a, ← n, ← j) in
-    record {
-      depths = r .depths;
-      held = r .held;
-      settings = r .settings;
-      events = ap (λ (x : Event). x ∷ es) same ∙ ap (plain ∷_) (r .events);
-      kept = (t, rw n (r .kept));
-      usual = (rw a u, r .usual);
-    }
+    (r : Plain) (k : Call) {j new : List ℕ} {e : Event} {cs : List Call} {es : List Event} {last : State} →
+    Done r (plainAccepted r k) (plainNumber r k) (plainChange r k) j new e → e .journal ≡ plainJournal r k → Kept (plainState r) k e →
+    From (plainNext r k) cs es last → From r (k ∷ cs) (e ∷ es) last
+unfolding plainNext plainReply plainEvents plainEnd AllKept AllUsual
+more r k {e = e} {cs = cs} {es = es} f j t (rest, ready) =
+    let event : Event = record { reply = plainReply r k; after = plainState (plainNext r k); journal = plainJournal r k } in
+    let same : e ≡ event = event-same (done-reply f) (done-after f) j in (
+      record {
+        session = rest .session;
+        events = ap (λ (x : Event). x ∷ es) same ∙ ap (event ∷_) (rest .events);
+        kept = (t, subst (λ (x : State). AllKept x cs es) (sym (done-after f)) (rest .kept));
+        usual = (rw (f .number) (call-usual r k), rest .usual);
+      },
+      ready,
+    )
+
+-- GET and SET leave the pictures
+same-pictures : (r : Plain) (k : Call) {p : Pictures} → p ≡ plainAccepted r k .pictures → p ≡ r .pictures → p ≡ plainNext r k .pictures
+unfolding plainNext
+same-pictures r k {p = p} new old = chosen (λ (x : Plain). p ≡ x .pictures) (plainNumber r k) (plainAccepted r k) r (λ z. new) (λ z. old)
 
 -- by induction on the list of calls
 go :
-    (s : Settings) (p : Pictures) (d : Depths) → Ready s p d → {st last : State} {cs : List Call} {es : List Event} →
-    Run p st cs es last → st ≡ plainState s p d → RunPost s p d (plainState s p d) cs es last
-unfolding plainState plainEvents plainEnd plainNumber plainNext plainJournal plainReply plainAnswer AllKept AllUsual
-go s p d ok halted e =
-    record {
-      depths = ap (λ (x : State). x .depths) e;
-      held = ap (λ (x : State). x .held) e;
-      settings = ap (λ (x : State). x .settings) e;
-      events = refl;
-      kept = tt;
-      usual = tt;
-    }
-go s p d ok (got {st = st} {v = v} {b = b} {c = c} {x = x} r h k) e =
-    more s p d (get v b c x) _ (get-reply s p d ok v b c x st e r h) e refl e (inl (own-usual s v b c (length x))) (go s p d ok k e)
-go s p d ok (wrote {st = st} {v = v} {b = b} {c = c} {x = x} {j = j} r d′ h′ j′ h k) e =
-    let f = set-edit s p d ok st e j j′ r d′ h′ v b c x h in
-    let w : Depths = written s v b (filled b c x) d in
-    let n = edit-after f (λ (x : Depths). x) w d (λ z. refl) refl in
-    more s p d (set v b c x j) _ (edit-reply f (changeOf s p d v b (filled b c x)) (λ z. refl)) n
-    (edit-journal f (λ (x : List ℕ). x) (saved j v b (oldDepths s v b d)) j refl refl)
-    (edit-kept f ok (λ z. set-own s v b c (length x) _ z .block)) (set-usual s v b c x j)
-    (go s p (plainNext s d (set v b c x j))
-    (bool-cases (eqb (plainNumber s (set v b c x j)) 0) (λ y. rw y (ready-written s p v b (filled b c x) d ok)) (λ y. rw y ok)) k n)
+    (r : Plain) → Ready r → {p : Pictures} {st last : State} {cs : List Call} {es : List Event} → Run p st cs es last → p ≡ r .pictures →
+    st ≡ plainState r → From r cs es last
+unfolding plainNumber plainAccepted plainNext plainJournal plainChange plainEvents plainEnd AllKept AllUsual
+go r ok halted p e = (record { session = e; events = refl; kept = tt; usual = tt }, ok)
+go r ok (got {v = v} {b = b} {c = c} {x = x} t h k) p e =
+    let f = get-done r ok [] p e refl v b c x t h in
+    more r (get v b c x) f refl e (go _ (done-ready f ok) k (same-pictures r (get v b c x) p p) (done-after f))
+go r ok (wrote {v = v} {b = b} {c = c} {x = x} {j = j} t d′ h′ j′ h k) p e =
+    let f = set-done r ok j p e refl v b c x t d′ h′ j′ h in
+    more r (set v b c x j) f (done-journal f) (edit-kept r ok v b (filled b c x) f (λ z. set-own (r .settings) v b c (length x) _ z .block))
+    (go _ (done-ready f ok) k (same-pictures r (set v b c x j) p p) (done-after f))
+go r ok (moved {to = to} {reference = reference} {j = j} t h′ j′ h k) p e =
+    let f = move-done r ok j p e refl to reference t h′ j′ h in
+    let pictures = next-pictures (λ (x : Plain). x .pictures) (plainNumber r (move to reference j)) (plainAccepted r (move to reference j)) r reference (f .number) p refl in
+    more r (move to reference j) f (done-journal f) (move-kept f refl) (go _ (done-ready f ok) k pictures (done-after f))
 
-pub session-run :
-    (s : Settings) (p : Pictures) (d : Depths) (h₀ h : Held) (j₀ j : List ℕ) (r : Opened) → OpenPost s p d h₀ h j₀ j r → numberOf (r .refusal) ≡ 0 →
-    {cs : List Call} {es : List Event} {last : State} →
-    Run p (record { settings = r .settings; depths = d; held = h }) cs es last →
-    RunPost s p d (record { settings = r .settings; depths = d; held = h }) cs es last
-session-run s p d h₀ h j₀ j r post accepted k =
-    let e = open-leaves s p d h₀ h j₀ j r post accepted in rw e (go s p d (open-ready s p d h₀ h j₀ j r post accepted) k e)
+module _ (s : Settings) (p : Pictures) (d : Depths) (h₀ h : Held) (j₀ j : List ℕ) (o : Opened) (post : OpenPost s p d h₀ h j₀ j o) (accepted : numberOf (o .refusal) ≡ 0) {cs : List Call} {es : List Event} {last : State} (run : Run p (leaves (o .settings) d h) cs es last) where
+  leaves-first : leaves (o .settings) d h ≡ plainState (plain s p d)
+  leaves-first = fill-leaves s s p d h₀ h j₀ j o post accepted
+
+  from-first : From (plain s p d) cs es last
+  from-first = go (plain s p d) (fill-ready s s p d h₀ h j₀ j o post accepted) run refl leaves-first
+
+  pub session-run : RunPost (plain s p d) (leaves (o .settings) d h) cs es last
+  session-run = rw leaves-first (from-first .0)
+
+  -- the record at the run's end
+  abbrev ends : Plain
+  ends = plainEnd (plain s p d) cs
+
+  -- A fresh OPEN that is passed what the record ends with is accepted where the held planes lent to it have their lengths and the journal a word.
+  pub halted-opens :
+      (g : Held) (k : List ℕ) → HeldOf (area (ends .settings)) (markBytes (ends .settings .w) * ends .settings .h) g → 0 < length k →
+      openNumber (ends .settings) (ends .pictures) (ends .depths) g k ≡ 0
+  halted-opens = ready-open ends (from-first .1)
+
+-- What a run leaves is what a fresh OPEN leaves that is passed what the record ends with: settings and reference of the last accepted MOVE, and the depths.
+pub halted-as-opened :
+    {r : Plain} {first last : State} {cs : List Call} {es : List Event} → RunPost r first cs es last → (h₀ h : Held) (j₀ j : List ℕ) (o : Opened) →
+    OpenPost (plainEnd r cs .settings) (plainEnd r cs .pictures) (plainEnd r cs .depths) h₀ h j₀ j o → numberOf (o .refusal) ≡ 0 →
+    leaves (o .settings) (plainEnd r cs .depths) h ≡ last
+halted-as-opened run h₀ h j₀ j o post accepted = fill-leaves _ _ _ _ h₀ h j₀ j o post accepted ∙ sym (run .session)
 
 -- a run halted after its first n calls
 pub halts :
@@ -96,3 +114,4 @@ halts zero k = halted
 halts (suc n) halted = halted
 halts (suc n) (got r h k) = got r h (halts n k)
 halts (suc n) (wrote r d h j post k) = wrote r d h j post (halts n k)
+halts (suc n) (moved r h j post k) = moved r h j post (halts n k)

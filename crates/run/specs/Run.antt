@@ -1,5 +1,5 @@
--- Document 01, "The plain record of a run": runs, the plain record, and what is promised of a run as a whole (term 3). Each SET is passed a journal, any
--- journal, anyone's; specs/Shared has the runs in which all are passed one (document 02, card 3).
+-- Document 01, "The plain record of a run", with MOVE among the calls (document 02, card 11): runs, the plain record, and what is promised of a run as a whole
+-- (term 3). Each SET and each MOVE is passed a journal, any journal, anyone's; specs/Shared has the runs in which all are passed one (card 3).
 use Prim.Native.Nat.{ℕ, _+_, _*_, _<_}
 use mathlib.Core.Path.{_≡_}
 use mathlib.Core.Bool.{Bool, true, false, cond, _&&_}
@@ -13,27 +13,30 @@ use Rattle.model.specs.declared.Block.{Block}
 use Rattle.model.specs.declared.Candidate.{Candidate}
 use Rattle.model.specs.declared.Pixel.{Pixel}
 use Rattle.model.specs.declared.Refusal.{Refusal}
+use Rattle.model.specs.declared.Opened.{Opened}
 use Rattle.model.specs.declared.Trial.{Trial}
 use Rattle.model.specs.declared.Edited.{Edited}
 use Rattle.model.specs.Lists.{rowOf}
 use Rattle.model.specs.Row.{pixel}
 use Rattle.model.specs.Views.{isRight}
 use Rattle.model.specs.Marks.{markBytes, markAt}
-use Rattle.model.specs.Planes.{Pictures, Depths, View, Held, State, withTotal, depthsOf, viewOf}
+use Rattle.model.specs.Planes.{Pictures, Depths, View, Held, State, area, withTotal, withSeat, withReference, depthsOf, viewOf}
 use Rattle.model.specs.Fresh.{fresh, freshTotal}
 use Rattle.model.specs.Candidates.{filled}
 use Rattle.model.specs.Blocks.{inRows, inBlock, written, oldDepths, changeOf}
-use Rattle.model.specs.Journals.{saved}
+use Rattle.model.specs.Journals.{saved, emptied}
 use Rattle.model.specs.Span.{spanHas, limitMoves}
-use Rattle.model.specs.Refusals.{numberOf, ownThen, savingThen}
-use Rattle.model.specs.Promises.{GetPost, SetPost}
+use Rattle.model.specs.Refusals.{numberOf, unless, tablesOk, shareOk, tearOk, wordsOk, pictureOk, ownThen, savingThen}
+use Rattle.model.specs.Promises.{GetPost, SetPost, MovePost}
 
--- Each call brings its own view, block and candidate, and the bytes lent with the candidate; a SET brings a journal too.
+-- Each call brings its own view, block and candidate, and the bytes lent with the candidate; a SET brings a journal too. A MOVE brings the settings to move to, a
+-- reference and a journal.
 pub data Call : Type 0 where
   get : ℕ → Block → Candidate → List ℕ → Call
   set : ℕ → Block → Candidate → List ℕ → List ℕ → Call
+  move : Settings → List ℕ → List ℕ → Call
 
--- What a call answered: the number of its refusal, 0 for none, and the change.
+-- What a call answered: the number of its refusal, 0 for none, and the change. A MOVE answers none.
 pub record Reply : Type 0 where
   pub number : ℕ
   pub change : ℤ
@@ -42,9 +45,9 @@ pub record Reply : Type 0 where
 abbrev pub replyOf : Refusal → ℤ → Reply
 replyOf r change = record { number = numberOf r; change = change }
 
--- the session that a call with these answers and planes leaves
-abbrev pub leaves : Edited → Depths → Held → State
-leaves r d h = record { settings = r .settings; depths = d; held = h }
+-- the session that a call with these settings answered and these planes leaves
+abbrev pub leaves : Settings → Depths → Held → State
+leaves s d h = record { settings = s; depths = d; held = h }
 
 -- What a call answered, and the session and the journal as it left them; a GET is passed none, and leaves none.
 pub record Event : Type 0 where
@@ -52,61 +55,98 @@ pub record Event : Type 0 where
   pub after : State
   pub journal : List ℕ
 
--- ---- A run: each call is passed OPEN's pictures, the planes as the call before left them, and the latest settings answered.
+-- The pictures after a MOVE that answered number n: from an accepted one on, the textures and its reference.
+abbrev pub picturesAfter : ℕ → Pictures → List ℕ → Pictures
+picturesAfter n p reference = cond (eqb n 0) (withReference p reference) p
+
+-- ---- A run: each call is passed the pictures, the planes as the call before left them, and the latest settings answered; a MOVE its own reference.
 -- A step is ANY reply and planes that the entry's own promise allows, refused calls included.
-pub data Run (p : Pictures) : State → List Call → List Event → State → Type 0 where
-  halted : {st : State} → Run p st [] [] st
+pub data Run : Pictures → State → List Call → List Event → State → Type 0 where
+  halted : {p : Pictures} {st : State} → Run p st [] [] st
   got :
-      {st last : State} {v : ℕ} {b : Block} {c : Candidate} {x : List ℕ} {cs : List Call} {es : List Event} (r : Trial) →
+      {p : Pictures} {st last : State} {v : ℕ} {b : Block} {c : Candidate} {x : List ℕ} {cs : List Call} {es : List Event} (r : Trial) →
       GetPost (st .settings) p (st .depths) (st .held) v b c x r →
       Run p st cs es last →
       Run p st (get v b c x ∷ cs) (record { reply = replyOf (r .refusal) (r .change); after = st; journal = [] } ∷ es) last
   wrote :
-      {st last : State} {v : ℕ} {b : Block} {c : Candidate} {x j : List ℕ} {cs : List Call} {es : List Event} (r : Edited) (d : Depths) (h : Held) (k : List ℕ) →
+      {p : Pictures} {st last : State} {v : ℕ} {b : Block} {c : Candidate} {x j : List ℕ} {cs : List Call} {es : List Event} (r : Edited) (d : Depths) (h : Held) (k : List ℕ) →
       SetPost (st .settings) p (st .depths) d (st .held) h j k v b c x r →
-      Run p (leaves r d h) cs es last →
-      Run p st (set v b c x j ∷ cs) (record { reply = replyOf (r .refusal) (r .change); after = leaves r d h; journal = k } ∷ es) last
+      Run p (leaves (r .settings) d h) cs es last →
+      Run p st (set v b c x j ∷ cs) (record { reply = replyOf (r .refusal) (r .change); after = leaves (r .settings) d h; journal = k } ∷ es) last
+  moved :
+      {p : Pictures} {st last : State} {to : Settings} {reference j : List ℕ} {cs : List Call} {es : List Event} (r : Opened) (h : Held) (k : List ℕ) →
+      MovePost (st .settings) to (withReference p reference) (st .depths) (st .held) h j k r →
+      Run (picturesAfter (numberOf (r .refusal)) p reference) (leaves (r .settings) (st .depths) h) cs es last →
+      Run p st (move to reference j ∷ cs) (record { reply = replyOf (r .refusal) (pos 0); after = leaves (r .settings) (st .depths) h; journal = k } ∷ es) last
 
--- ---- The plain record: two depth planes, fed each call's view, block and candidate alone. s and p are what OPEN was passed.
+-- ---- The plain record: two depth planes, fed each call's view, block and candidate alone, and what they are drawn with: settings and pictures of OPEN, and from an
+-- accepted MOVE on its settings and the textures with its reference.
+pub record Plain : Type 0 where
+  pub settings : Settings
+  pub pictures : Pictures
+  pub depths : Depths
 
--- In a run 1 to 4 and 8 never apply to GET or SET, so that 6, 5 and the candidate's own number are left; then 13 and 11 go by the journal passed.
-unfoldable pub plainNumber : Settings → Call → ℕ
-plainNumber s (get v b c x) = ownThen s v b c (length x) 0
-plainNumber s (set v b c x j) = ownThen s v b c (length x) (savingThen s b j 0)
+abbrev pub plain : Settings → Pictures → Depths → Plain
+plain s p d = record { settings = s; pictures = p; depths = d }
 
--- GET: the record stays. SET: the block that the candidate stands for stays written, unless a number applies.
-unfoldable pub plainNext : Settings → Depths → Call → Depths
-plainNext s d (get v b c x) = d
-plainNext s d (set v b c x j) = cond (eqb (plainNumber s (set v b c x j)) 0) (written s v b (filled b c x) d) d
+-- In a run 1 never applies to MOVE, and of the planes only the reference may have a wrong length: 2, 3, 4, 20, 13, 21.
+unfoldable pub moveNumber : Settings → Settings → List ℕ → List ℕ → ℕ
+moveNumber s to reference j =
+    unless (eqb (length reference) (area s)) 2
+    (unless (tablesOk to) 3 (unless (shareOk to) 4 (unless (tearOk (to .tear)) 20 (unless (wordsOk j) 13 (unless (pictureOk reference) 21 0)))))
 
--- What a SET leaves of the journal passed: it saves what stands in the block, unless a number applies.
-unfoldable pub plainJournal : Settings → Depths → Call → List ℕ
-plainJournal s d (get v b c x) = []
-plainJournal s d (set v b c x j) = cond (eqb (plainNumber s (set v b c x j)) 0) (saved j v b (oldDepths s v b d)) j
+-- 1 to 4, 20 and 8 never apply to GET or SET, so that 6, 5 and the candidate's own number are left; then 13 and 11 go by the journal passed.
+unfoldable pub plainNumber : Plain → Call → ℕ
+plainNumber r (get v b c x) = ownThen (r .settings) v b c (length x) 0
+plainNumber r (set v b c x j) = ownThen (r .settings) v b c (length x) (savingThen (r .settings) b j 0)
+plainNumber r (move to reference j) = moveNumber (r .settings) to reference j
+
+-- What an accepted call makes of the record. GET: it stays. SET: the block that the candidate stands for stays written. MOVE: the depths stay.
+unfoldable pub plainAccepted : Plain → Call → Plain
+plainAccepted r (get v b c x) = r
+plainAccepted r (set v b c x j) = plain (r .settings) (r .pictures) (written (r .settings) v b (filled b c x) (r .depths))
+plainAccepted r (move to reference j) = plain (withSeat (r .settings) to) (withReference (r .pictures) reference) (r .depths)
+
+unfoldable pub plainNext : Plain → Call → Plain
+plainNext r k = cond (eqb (plainNumber r k) 0) (plainAccepted r k) r
+
+-- What a call leaves of the journal passed: SET saves what stands in the block and MOVE empties it, unless a number applies.
+unfoldable pub plainJournal : Plain → Call → List ℕ
+plainJournal r (get v b c x) = []
+plainJournal r (set v b c x j) = cond (eqb (plainNumber r (set v b c x j)) 0) (saved j v b (oldDepths (r .settings) v b (r .depths))) j
+plainJournal r (move to reference j) = cond (eqb (plainNumber r (move to reference j)) 0) (emptied j) j
 
 -- The first number n that applies, or the change.
 unfoldable pub plainAnswer : ℕ → ℤ → Reply
 plainAnswer n change = record { number = n; change = cond (eqb n 0) change (pos 0) }
 
 -- GET: the fresh total with that block written less that of the record as it stands. SET answers the same.
-unfoldable pub plainReply : Settings → Pictures → Depths → Call → Reply
-plainReply s p d (get v b c x) = plainAnswer (plainNumber s (get v b c x)) (changeOf s p d v b (filled b c x))
-plainReply s p d (set v b c x j) = plainAnswer (plainNumber s (set v b c x j)) (changeOf s p d v b (filled b c x))
+unfoldable pub plainChange : Plain → Call → ℤ
+plainChange r (get v b c x) = changeOf (r .settings) (r .pictures) (r .depths) v b (filled b c x)
+plainChange r (set v b c x j) = changeOf (r .settings) (r .pictures) (r .depths) v b (filled b c x)
+plainChange r (move to reference j) = pos 0
 
--- The record's drawing, as a session: the settings are those of OPEN with the fresh total.
-unfoldable pub plainState : Settings → Pictures → Depths → State
-plainState s p d = record { settings = withTotal s (freshTotal s p d); depths = d; held = fresh s p d }
+unfoldable pub plainReply : Plain → Call → Reply
+plainReply r k = plainAnswer (plainNumber r k) (plainChange r k)
 
-unfoldable pub plainEvents : Settings → Pictures → Depths → List Call → List Event
-plainEvents s p d [] = []
-plainEvents s p d (k ∷ ks) =
-    record { reply = plainReply s p d k; after = plainState s p (plainNext s d k); journal = plainJournal s d k } ∷ plainEvents s p (plainNext s d k) ks
+-- The record's drawing, as a session: its settings with the fresh total.
+unfoldable pub plainState : Plain → State
+plainState r =
+    record {
+      settings = withTotal (r .settings) (freshTotal (r .settings) (r .pictures) (r .depths));
+      depths = r .depths;
+      held = fresh (r .settings) (r .pictures) (r .depths);
+    }
 
-unfoldable pub plainEnd : Settings → Depths → List Call → Depths
-plainEnd s d [] = d
-plainEnd s d (k ∷ ks) = plainEnd s (plainNext s d k) ks
+unfoldable pub plainEvents : Plain → List Call → List Event
+plainEvents r [] = []
+plainEvents r (k ∷ ks) = record { reply = plainReply r k; after = plainState (plainNext r k); journal = plainJournal r k } ∷ plainEvents (plainNext r k) ks
 
--- ---- What an accepted SET may change.
+unfoldable pub plainEnd : Plain → List Call → Plain
+plainEnd r [] = r
+plainEnd r (k ∷ ks) = plainEnd (plainNext r k) ks
+
+-- ---- What an accepted call may change, by the settings it was passed.
 
 -- what a view's held planes show at column x of row y
 unfoldable pub shownIn : ℕ → View → ℕ → ℕ → Pixel
@@ -126,41 +166,55 @@ pub record Local (s : Settings) (v : ℕ) (b : Block) (before after : State) : T
   pub left : isRight v ≡ true → (after .depths .left ≡ before .depths .left) × (after .held .left ≡ before .held .left)
   pub right : isRight v ≡ false → (after .depths .right ≡ before .depths .right) × (after .held .right ≡ before .held .right)
 
--- A call that writes block b in view v and is passed journal j: refused, it changes nothing, the journal neither; accepted, no more than the above.
-abbrev pub Edits : Settings → State → List ℕ → ℕ → Block → Event → Type 0
-Edits s before j v b e =
-    ((e .reply .number ≡ 0 → ⊥) → (e .after ≡ before) × (e .journal ≡ j)) × (e .reply .number ≡ 0 → Local s v b before (e .after))
+-- A refused call changes nothing, the journal that it is passed neither.
+abbrev pub Refuses : State → List ℕ → Event → Type 0
+Refuses before j e = (e .reply .number ≡ 0 → ⊥) → (e .after ≡ before) × (e .journal ≡ j)
+
+-- A call that writes block b in view v and is passed journal j: accepted, it changes no more than the above.
+abbrev pub Edits : State → List ℕ → ℕ → Block → Event → Type 0
+Edits before j v b e = Refuses before j e × (e .reply .number ≡ 0 → Local (before .settings) v b before (e .after))
+
+-- A MOVE that is passed journal j: accepted, it changes no depth.
+abbrev pub Moves : State → List ℕ → Event → Type 0
+Moves before j e = Refuses before j e × (e .reply .number ≡ 0 → e .after .depths ≡ before .depths)
 
 -- No GET and no refused call changes anything.
-abbrev pub Kept : Settings → State → Call → Event → Type 0
-Kept s before (get v b c x) e = e .after ≡ before
-Kept s before (set v b c x j) e = Edits s before j v b e
+abbrev pub Kept : State → Call → Event → Type 0
+Kept before (get v b c x) e = e .after ≡ before
+Kept before (set v b c x j) e = Edits before j v b e
+Kept before (move to reference j) e = Moves before j e
 
-unfoldable pub AllKept : Settings → State → List Call → List Event → Type 0
-AllKept s before [] [] = Unit
-AllKept s before [] (e ∷ es) = ⊥
-AllKept s before (k ∷ ks) [] = ⊥
-AllKept s before (k ∷ ks) (e ∷ es) = Kept s before k e × AllKept s (e .after) ks es
+unfoldable pub AllKept : State → List Call → List Event → Type 0
+AllKept before [] [] = Unit
+AllKept before [] (e ∷ es) = ⊥
+AllKept before (k ∷ ks) [] = ⊥
+AllKept before (k ∷ ks) (e ∷ es) = Kept before k e × AllKept (e .after) ks es
 
--- 1 to 4 and 8 never occur. A call's own numbers, and SET's of the journal:
+-- The numbers that occur: a call's own, SET's of the journal, and MOVE's. 1 and 8 never do.
 abbrev pub Own : ℕ → Type 0
 Own n = (n ≡ 0) ⊎ ((n ≡ 5) ⊎ ((n ≡ 6) ⊎ ((n ≡ 7) ⊎ ((n ≡ 14) ⊎ (n ≡ 15)))))
 
-abbrev pub Usual : ℕ → Type 0
-Usual n = Own n ⊎ ((n ≡ 13) ⊎ (n ≡ 11))
+abbrev pub OfMove : ℕ → Type 0
+OfMove n = (n ≡ 0) ⊎ ((n ≡ 2) ⊎ ((n ≡ 3) ⊎ ((n ≡ 4) ⊎ ((n ≡ 20) ⊎ (n ≡ 21)))))
 
-unfoldable pub AllUsual : List Event → Type 0
-AllUsual [] = Unit
-AllUsual (e ∷ es) = Usual (e .reply .number) × AllUsual es
+abbrev pub Usual : Call → ℕ → Type 0
+Usual (get v b c x) n = Own n
+Usual (set v b c x j) n = Own n ⊎ ((n ≡ 13) ⊎ (n ≡ 11))
+Usual (move to reference j) n = OfMove n ⊎ (n ≡ 13)
 
--- ---- Term 3, of the list as a whole. OPEN was passed s, p and d and left `first`.
-pub record RunPost (s : Settings) (p : Pictures) (d : Depths) (first : State) (cs : List Call) (es : List Event) (last : State) : Type 0 where
-  pub depths : last .depths ≡ plainEnd s d cs
-  pub held : last .held ≡ fresh s p (plainEnd s d cs)
-  pub settings : last .settings ≡ withTotal s (freshTotal s p (plainEnd s d cs))
-  pub events : es ≡ plainEvents s p d cs
-  pub kept : AllKept s first cs es
-  pub usual : AllUsual es
+unfoldable pub AllUsual : List Call → List Event → Type 0
+AllUsual [] [] = Unit
+AllUsual [] (e ∷ es) = ⊥
+AllUsual (k ∷ ks) [] = ⊥
+AllUsual (k ∷ ks) (e ∷ es) = Usual k (e .reply .number) × AllUsual ks es
+
+-- ---- Term 3, of the list as a whole. r is the plain record of what OPEN was passed, and OPEN left `first`. What the run leaves is what a fresh OPEN leaves that is
+-- passed the settings and pictures of the record then, those of the last accepted MOVE, and its depths.
+pub record RunPost (r : Plain) (first : State) (cs : List Call) (es : List Event) (last : State) : Type 0 where
+  pub session : last ≡ plainState (plainEnd r cs)
+  pub events : es ≡ plainEvents r cs
+  pub kept : AllKept first cs es
+  pub usual : AllUsual cs es
 
 -- the session after the last of some events
 unfoldable pub stateAfter : State → List Event → State

@@ -80,7 +80,7 @@ module _ (s : Settings) (p : Pictures) (d₀ : Depths) (h₀ : Held) (b : Block)
   -- settled in the planes of one view
   pub settled-by :
       (v rest : ℕ) (r : Bool) → isRight v ≡ r → (d′ : List ℕ) (v′ : View) (c′ : List ℕ) (q : Decision) →
-      OwnSettled r (tableOf s r) (s .share) (s .tolerance) (s .total) (s .w) (s .h) b rest (textureOf p r) c (viewOf h₀ (not r) .samples) (viewOf h₀ (not r) .fronts) (viewOf h₀ (not r) .marks) (p .reference) (depthsOf d₀ r) d′ (viewOf h₀ r) v′ (h₀ .combined) c′ q →
+      OwnSettled (s .tear) r (tableOf s r) (s .share) (s .tolerance) (s .total) (s .w) (s .h) b rest (textureOf p r) c (viewOf h₀ (not r) .samples) (viewOf h₀ (not r) .fronts) (viewOf h₀ (not r) .marks) (p .reference) (depthsOf d₀ r) d′ (viewOf h₀ r) v′ (h₀ .combined) c′ q →
       Settled s p d₀ (withDepths r d₀ d′) h₀ (withView r h₀ v′ c′) v b c rest q
   settled-by v rest r side d′ v′ c′ q o =
       record {

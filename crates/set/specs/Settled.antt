@@ -3,6 +3,7 @@ use Prim.Native.Nat.{ℕ, _*_}
 use mathlib.Core.Path.{_≡_}
 use mathlib.Core.Bool.{Bool}
 use mathlib.Core.List.{List}
+use Rattle.model.specs.declared.Tear.{Tear}
 use Rattle.model.specs.declared.Settings.{Settings}
 use Rattle.model.specs.declared.Block.{Block}
 use Rattle.model.specs.Combined.{worst}
@@ -19,15 +20,15 @@ use Rattle.decide.specs.Decided.{Tried, Judged}
 
 -- In the planes of one view: the two sums are a trial's, 8 is judged by them, then the rest of the call's list, and the block is set or nothing is changed. The
 -- other view's planes are s₂, f₂ and m₂.
-pub record OwnSettled (right : Bool) (t : List ℕ) (share tolerance total w h : ℕ) (b : Block) (rest : ℕ) (texture candidate s₂ f₂ m₂ reference d d′ : List ℕ) (v v′ : View) (c c′ : List ℕ) (r : Decision) : Type 0 where
+pub record OwnSettled (tear : Tear) (right : Bool) (t : List ℕ) (share tolerance total w h : ℕ) (b : Block) (rest : ℕ) (texture candidate s₂ f₂ m₂ reference d d′ : List ℕ) (v v′ : View) (c c′ : List ℕ) (r : Decision) : Type 0 where
   pub old : ℕ
   pub new : ℕ
-  pub tried : BlockTrial w (around right share tolerance s₂ f₂ m₂ c reference) (own t texture d (v .limits)) b candidate (b .height) old new
+  pub tried : BlockTrial w (around right share tolerance s₂ f₂ m₂ c reference) (own tear t texture d (v .limits)) b candidate (b .height) old new
   pub judged : Judged total old new (worst * (w * h)) rest r
   pub kept-depths : (numberOf (r .refusal) ≡ 0 → ⊥) → d′ ≡ d
   pub kept-view : (numberOf (r .refusal) ≡ 0 → ⊥) → v′ ≡ v
   pub kept-combined : (numberOf (r .refusal) ≡ 0 → ⊥) → c′ ≡ c
-  pub set : numberOf (r .refusal) ≡ 0 → BlockSet right t share tolerance w h b texture candidate s₂ f₂ m₂ d d′ v v′ c c′
+  pub set : numberOf (r .refusal) ≡ 0 → BlockSet tear right t share tolerance w h b texture candidate s₂ f₂ m₂ d d′ v v′ c c′
 
 -- The depths are written in the block, whatever the planes hold; where the planes held the fresh drawing, they hold that of the written depths, as
 -- they stand and as they are read.

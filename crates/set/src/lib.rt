@@ -3,7 +3,9 @@ use decide::Decision;
 use model::Block;
 use model::Candidate;
 use model::Edited;
+use model::Refusal;
 use model::Settings;
+use model::Tear;
 use validate::Lengths;
 use validate::ViewLengths;
 ghost use mathlib.Core.Path.{_≡_};
@@ -13,17 +15,18 @@ ghost use lib.ListN.{length};
 ghost use Rattle.model.specs.Planes as planes;
 ghost use Rattle.model.specs.Candidates.{filled};
 ghost use Rattle.model.specs.Blocks.{blockDepths, oldDepths};
-ghost use Rattle.model.specs.Refusals.{tableOk, candidateThen, savingThen, earlyNumber};
+ghost use Rattle.model.specs.Refusals.{numberOf, tableOk, candidateThen, savingThen, earlyNumber};
 ghost use Rattle.model.specs.Promises.{SetPost};
 ghost use Rattle.trial.specs.Trial.{around, own, Sized, Fits};
 ghost use Rattle.commit.specs.Commit as commit;
 ghost use Rattle.decide.specs.Decided.{settingsOf, heldOf};
-ghost use Rattle.validate.specs.Numbers.{sides};
+ghost use Rattle.validate.specs.Numbers.{commonNumber, sides, ownNumber};
 ghost use Rattle.set.specs.Settled.{OwnSettled, Settled, JournalSaved};
 
 // Tries the candidate in one view and, where the total stays in range and the journal has room, saves what stands in the block and writes it: texture, depths,
 // samples, fronts, limits and marks are the view's own, and samples2, fronts2 and marks2 the other view's.
 fn settle(
+    tear: Tear,
     right: bool,
     view: u32,
     table: &[u16; 256],
@@ -49,10 +52,10 @@ fn settle(
     journal: &mut [u32],
 ) -> Decision
     requires { ⌜ (tableOk (now table) ≡ true) × (share ≤ 64) ⌝ }
-    requires { ⌜ Sized w h (around right share tolerance (now samples2) (now fronts2) (now marks2) (now combined) (now reference)) (own (now table) (now texture) (now depths) (now limits)) ⌝ }
+    requires { ⌜ Sized w h (around right share tolerance (now samples2) (now fronts2) (now marks2) (now combined) (now reference)) (own tear (now table) (now texture) (now depths) (now limits)) ⌝ }
     requires { ⌜ commit.Sized w h (now texture) (now depths) (planes.view (now samples) (now fronts) (now limits) (now marks)) ⌝ }
     requires { ⌜ (Fits w h block (filled block candidate (now bytes))) × (candidateThen block candidate (length (now bytes)) 0 ≡ 0) ⌝ }
-    ensures { λ r. ⌜ (OwnSettled right (now (table .entry)) share tolerance total w h block (savingThen (sides w h) block (now (journal .entry)) 0) (now (texture .entry)) (filled block candidate (now (bytes .entry)))
+    ensures { λ r. ⌜ (OwnSettled tear right (now (table .entry)) share tolerance total w h block (savingThen (sides w h) block (now (journal .entry)) 0) (now (texture .entry)) (filled block candidate (now (bytes .entry)))
         (now (samples2 .entry)) (now (fronts2 .entry)) (now (marks2 .entry)) (now (reference .entry))
         (now (depths .entry)) (now (depths .exit))
         (planes.view (now (samples .entry)) (now (fronts .entry)) (now (limits .entry)) (now (marks .entry)))
@@ -67,6 +70,7 @@ fn settle(
     let width = block.width as usize;
     let height = block.height as usize;
     let sums = trial::trial_candidate(
+        tear,
         right,
         table,
         share,
@@ -97,6 +101,7 @@ fn settle(
     }
     journal::save(view, block, columns, depths, journal);
     combine::set_block(
+        tear,
         right,
         table,
         share,
@@ -131,6 +136,7 @@ fn settle_view<'a>(
     rightTable: &'a [u16; 256],
     share: u8,
     tolerance: u8,
+    tear: Tear,
     total: u64,
     left: &[u16],
     right: &[u16],
@@ -152,12 +158,12 @@ fn settle_view<'a>(
     candidate: Candidate,
     bytes: &[u8],
 ) -> Decision
-    requires { ⌜ earlyNumber (settingsOf w h (now leftTable) (now rightTable) share tolerance total)
+    requires { ⌜ earlyNumber (settingsOf w h (now leftTable) (now rightTable) share tolerance tear total)
         (planes.pictures (now left) (now right) (now reference))
         (planes.depths (now leftDepths) (now rightDepths))
         (heldOf (now leftSamples) (now leftFronts) (now leftLimits) (now leftMarks) (now rightSamples) (now rightFronts) (now rightLimits) (now rightMarks) (now combined))
         view block candidate (length (now bytes)) ≡ 0 ⌝ }
-    ensures { λ r. ⌜ (Settled (settingsOf w h (now (leftTable .entry)) (now (rightTable .entry)) share tolerance total)
+    ensures { λ r. ⌜ (Settled (settingsOf w h (now (leftTable .entry)) (now (rightTable .entry)) share tolerance tear total)
         (planes.pictures (now (left .entry)) (now (right .entry)) (now (reference .entry)))
         (planes.depths (now (leftDepths .entry)) (now (rightDepths .entry)))
         (planes.depths (now (leftDepths .exit)) (now (rightDepths .exit)))
@@ -168,6 +174,7 @@ fn settle_view<'a>(
 {
     if view == 1 {
         return settle(
+            tear,
             true,
             view,
             rightTable,
@@ -194,6 +201,7 @@ fn settle_view<'a>(
         );
     }
     settle(
+        tear,
         false,
         view,
         leftTable,
@@ -218,6 +226,27 @@ fn settle_view<'a>(
         reference,
         journal,
     )
+}
+
+// 1, 2, 3, 4, 20, 6, 5, then the candidate's own number, the first that applies: all that SET refuses before it tries the candidate, of whose bytes there are n.
+fn refusal_of<'a>(
+    w: u32,
+    h: u32,
+    leftTable: &'a [u16; 256],
+    rightTable: &'a [u16; 256],
+    share: u8,
+    tear: Tear,
+    lengths: Lengths,
+    view: u32,
+    block: Block,
+    candidate: Candidate,
+    n: usize,
+) -> Refusal
+    ensures { λ r. ⌜ numberOf r ≡ commonNumber w h (now (leftTable .entry)) (now (rightTable .entry)) share tear lengths (ownNumber w h view block (candidateThen block candidate n 0)) ⌝ }
+{
+    let common = validate::common(w, h, leftTable, rightTable, share, tear, lengths);
+    let before = validate::with_block(common, w, h, view, block);
+    validate::with_candidate(before, block, candidate, n)
 }
 
 // The change of the total and the settings with the new total, or the first refusal that applies, which leaves everything as it was.
@@ -272,17 +301,20 @@ pub fn set(
         reference: reference.len(),
         combined: combined.len(),
     };
-    let before = validate::early(
+    let tear = settings.tear;
+    let first = refusal_of(
         settings.w,
         settings.h,
         &settings.left,
         &settings.right,
         settings.share,
+        tear,
         lengths,
         view,
         block,
+        candidate,
+        bytes.len(),
     );
-    let first = validate::with_candidate(before, block, candidate, bytes.len());
     if model::number(first) != 0 {
         return Edited {
             refusal: first,
@@ -297,6 +329,7 @@ pub fn set(
         &settings.right,
         settings.share,
         settings.tolerance,
+        tear,
         settings.total,
         left,
         right,

@@ -52,7 +52,7 @@ module _ (s : Settings) (j : List ℕ) (e : takingThen s j 0 ≡ 0) where
 
 module _ (s : Settings) (p : Pictures) (d₀ : Depths) (h₀ : Held) (j₀ : List ℕ) where
   -- the number that was found is the model's
-  pub early-taken : {n : ℕ} → n ≡ commonNumber (s .w) (s .h) (s .left) (s .right) (s .share) (lengthsOf p d₀ h₀) (takingThen (sides (s .w) (s .h)) j₀ 0) → n ≡ takeBackEarly s p d₀ h₀ j₀
+  pub early-taken : {n : ℕ} → n ≡ commonNumber (s .w) (s .h) (s .left) (s .right) (s .share) (s .tear) (lengthsOf p d₀ h₀) (takingThen (sides (s .w) (s .h)) j₀ 0) → n ≡ takeBackEarly s p d₀ h₀ j₀
   early-taken e = e ∙ common-number s p d₀ h₀ (takingThen (sides (s .w) (s .h)) j₀ 0) ∙ ap (commonThen s p d₀ h₀) (taking-sides (sides (s .w) (s .h)) s j₀ 0 refl refl)
 
   module _ (early : takeBackEarly s p d₀ h₀ j₀ ≡ 0) where

@@ -3,6 +3,7 @@ use model::Block;
 use model::Edited;
 use model::Refusal;
 use model::Settings;
+use model::Tear;
 use validate::Lengths;
 use validate::ViewLengths;
 ghost use mathlib.Core.Path.{_≡_};
@@ -24,19 +25,20 @@ struct Record {
     to: usize,
 }
 
-// 1, 2, 3, 4, 13 or 12, the first that applies: all that TAKE BACK refuses before it tries what was saved.
+// 1, 2, 3, 4, 20, 13 or 12, the first that applies: all that TAKE BACK refuses before it tries what was saved.
 fn refusal_of<'a>(
     w: u32,
     h: u32,
     leftTable: &'a [u16; 256],
     rightTable: &'a [u16; 256],
     share: u8,
+    tear: Tear,
     lengths: Lengths,
     journal: &[u32],
 ) -> Refusal
-    ensures { λ r. ⌜ numberOf r ≡ commonNumber w h (now (leftTable .entry)) (now (rightTable .entry)) share lengths (takingThen (sides w h) (now (journal .entry)) 0) ⌝ }
+    ensures { λ r. ⌜ numberOf r ≡ commonNumber w h (now (leftTable .entry)) (now (rightTable .entry)) share tear lengths (takingThen (sides w h) (now (journal .entry)) 0) ⌝ }
 {
-    let first = validate::common(w, h, leftTable, rightTable, share, lengths);
+    let first = validate::common(w, h, leftTable, rightTable, share, tear, lengths);
     if model::number(first) != 0 {
         return first;
     }
@@ -124,12 +126,14 @@ pub fn take_back(
         reference: reference.len(),
         combined: combined.len(),
     };
+    let tear = settings.tear;
     let first = refusal_of(
         settings.w,
         settings.h,
         &settings.left,
         &settings.right,
         settings.share,
+        tear,
         lengths,
         journal,
     );
@@ -151,6 +155,7 @@ pub fn take_back(
         &settings.right,
         settings.share,
         settings.tolerance,
+        tear,
         settings.total,
         left,
         right,

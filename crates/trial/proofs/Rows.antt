@@ -158,17 +158,17 @@ module _ (o : Around) (v : Own) (x : List ℕ) (first : ℕ) (ok : tableOk (v .t
       let within : stop ≤ w = omega (arith, stop-within t d (seen r (v .limits)) m) in
       let ll : length (seen r (v .limits)) ≡ length d = length-seen r (v .limits) ∙ same ∙ sym ld in
       let top : spanTop t d (seen r (v .limits)) m ≡ limit (place t d) (length d) m =
-      limit-true t d (seen r (v .limits)) m s ll (rw ld most) (omega arith) (rw ld fits) (λ h. truth .limits m (omega arith) (rw ld at h)) in
+      limit-true t d (seen r (v .limits)) m (v .tear) s ll (rw ld most) (omega arith) (rw ld fits) (λ h. truth .limits m (omega arith) (rw ld at h)) in
       let es : stop ≡ firstAt (limit (place t d) (length d) m) = ap (λ (z : ℕ). firstAt z) top in
       let el : limit (place t e) (length d) m ≡ limit (place t d) (length d) m = moved-limit (edited-moved t d e first (m - 1) edit) m (omega arith) in
       let out : (p : ℕ) → p < w → (p < spanStart (place t d) (place t e) first n) ⊎ (stop ≤ p) → pixelAt after p ≡ pixelAt before p = λ p h k.
-      span-pixel t s d e first (m - 1) p edit (rw ld h) (outside-span (place t d) (place t e) (length d) first n p some (rw es at k)) in
+      span-pixel (v .tear) t s d e first (m - 1) p edit (rw ld h) (outside-span (place t d) (place t e) (length d) first n p some (rw es at k)) in
       let eg : g .limit ≡ limit (place t e) (length e) m = rw (edit .same) (held .limit ∙ top ∙ sym el) in
-      let true-limits : (c : ℕ) → m ≤ c → c < length e → getD (seen r (v .limits)) c (pos 0) ≡ limitAt (line t s e) c = λ c h k.
-      truth .limits c h (rw le at k) ∙ sym (span-limit t s d e first (m - 1) c edit (omega arith)) in
+      let true-limits : (c : ℕ) → m ≤ c → c < length e → getD (seen r (v .limits)) c (pos 0) ≡ limitAt (line (v .tear) t s e) c = λ c h k.
+      truth .limits c h (rw le at k) ∙ sym (span-limit (v .tear) t s d e first (m - 1) c edit (omega arith)) in
       let ins : (p : ℕ) → p < stop → pixelBelow after m g p ≡ pixelAt after p = λ p h.
       below-pixel after m p g (omega arith) (rw le fits) eg
-      (edge-true t s e (seen r (v .limits)) m ok (ll ∙ sym (edit .same)) (rw le most) true-limits g p _ (rw le fits) eg held)
+      (edge-true (v .tear) t s e (seen r (v .limits)) m ok (ll ∙ sym (edit .same)) (rw le most) true-limits g p _ (rw le fits) eg held)
       (rw (held .limit) (omega arith)) in
       rw (total-positions o after, total-positions o before, le, ld)
       (sum-change (shownError o w (pixelAt before)) (shownError o w (pixelAt after)) (heldError o w) (shownError o w (pixelBelow after m g)) start stop w old new (omega arith) within

@@ -22,10 +22,10 @@ use Rattle.model.specs.Planes.{Pictures, Depths, View, Held, tableOf, textureOf
 use Rattle.model.specs.Fresh.{lineOf, freshRow, freshView, freshSample, freshCombined, fresh, freshTotal, shownAt}
 use Rattle.model.specs.Blocks.{inRows, written, writtenPlane}
 use Rattle.model.specs.Span.{firstColumn}
-use Rattle.model.proofs.Lists.{getD-listOf, getD-row, length-row, rows-apart}
+use Rattle.model.proofs.Lists.{getD-listOf, length-row, rows-apart}
 use Rattle.model.proofs.Sums.{sum-same, sum-join, sum-change}
 use Rattle.model.proofs.Views.{seenLine, length-seen, seen-seen, shown-view}
-use Rattle.model.proofs.Fresh.{DepthsSized, depths-length, wide, row-fresh-samples, row-fresh-fronts, row-fresh-limits, mark-fresh, row-fresh-combined, view-fresh}
+use Rattle.model.proofs.Fresh.{DepthsSized, depths-length, wide, row-fresh-limits, row-fresh-combined, view-fresh}
 use Rattle.model.proofs.Written.{rows-under, rows-beyond, candidate-fits, written-row-in, written-own}
 use Rattle.model.proofs.Totals.{errorAt, total-rows}
 use Rattle.model.proofs.Readings.{sampleIn-row, view-read}
@@ -59,7 +59,7 @@ aroundOf s p h right =
     (p .reference)
 
 abbrev pub ownOf : Settings → Pictures → Depths → Held → Bool → specs.Own
-ownOf s p d h right = own (tableOf s right) (textureOf p right) (depthsOf d right) (viewOf h right .limits)
+ownOf s p d h right = own (s .tear) (tableOf s right) (textureOf p right) (depthsOf d right) (viewOf h right .limits)
 
 -- the combined sample of two rows, the view's own first
 sample-paired : (s : Settings) (p : Pictures) (g : Depths) (right : Bool) (y x : ℕ) → freshSample s p g y x ≡ paired right (s .share) (s .tolerance) (shownAt (freshRow s p g right y) x) (shownAt (freshRow s p g (not right) y) x)
@@ -189,7 +189,7 @@ module _ (s : Settings) (p : Pictures) (d : Depths) (h : Held) (v : ℕ) (b : Bl
       (λ i k. sym (total-row s p d h sized same r (b .row + i) (row-in i k) d sized refl))
       (λ i k.
       sym (total-row s p d h sized same r (b .row + i) (row-in i k) after (sized-written s v b c d sized) (other-row s p d v b c sized (b .row + i))
-      ∙ ap (λ (z : List ℕ). rowTotal (aroundRow (s .w) o (b .row + i)) (line (tableOf s r) (seen r (rowOf (textureOf p r) (s .w) (b .row + i))) z)) (tried-row i k)))
+      ∙ ap (λ (z : List ℕ). rowTotal (aroundRow (s .w) o (b .row + i)) (line (s .tear) (tableOf s r) (seen r (rowOf (textureOf p r) (s .w) (b .row + i))) z)) (tried-row i k)))
       (t .change (λ i k. row-true s p d h sized same r (b .row + i) (row-in i k) _)))
 
 -- for the view that the entry is asked for

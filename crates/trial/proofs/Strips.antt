@@ -9,6 +9,7 @@ use mathlib.Core.List.{List}
 use native.Mathlib.Omega.{arith}
 use lib.ListN.{length, getD}
 use lib.IntN.{ℤ}
+use Rattle.model.specs.declared.Tear.{Tear}
 use Rattle.model.specs.Row.{Line, width, quarter}
 use Rattle.model.specs.Views.{seen}
 use Rattle.model.specs.Span.{firstColumn}
@@ -30,13 +31,13 @@ use Rattle.trial.proofs.Rows.{summed-none, summed-join, summed-change}
 
 -- ---- where a trial begins
 
-module _ (r : Bool) (t s d x : List ℕ) (first column : ℕ) (fits : first + length x ≤ length d) (part : column ≡ firstColumn r (length d) first (length x)) where
+module _ (tear : Tear) (r : Bool) (t s d x : List ℕ) (first column : ℕ) (fits : first + length x ≤ length d) (part : column ≡ firstColumn r (length d) first (length x)) where
   -- the candidate in the row, as the view reads it
   pub tried-line : seen r (splice d column x) ≡ splice (seen r d) first (seen r x)
   tried-line = rw part (seen-splice r d x first fits)
 
   -- which can be drawn
-  pub tried-ready : tableOk t ≡ true → length s ≡ length d → 0 < length x → length d ≤ 4096 → Ready (lineWith r t s d column x)
+  pub tried-ready : tableOk t ≡ true → length s ≡ length d → 0 < length x → length d ≤ 4096 → Ready (lineWith tear r t s d column x)
   tried-ready ok same some most =
       let wide = length-tried r d x first fits in
       rw tried-line (record { table = ok; texture = length-seen r s ∙ same ∙ sym wide; some = rw wide (omega arith); most = rw wide most })
@@ -51,7 +52,7 @@ module _ (r : Bool) (t s d x : List ℕ) (first column : ℕ) (fits : first + le
       sym (rw (z, edit .same, same))
 
   -- the last column of the candidate is ahead of the positions before its span's end, whatever limits e are held
-  pub first-ahead : (e : List ℤ) (q : Pair) (g : Edge) {high stop : ℕ} → 0 < length x → Among r (length d) q → q .column ≡ first + length x - 1 → q .d0 ≡ getD (seen r x) (length x - 1) 0 → q .d1 ≡ getD (seen r d) (first + length x) 0 → q .here ≡ quarter (q .column) - getD t (q .d0) 0 → q .next ≡ nextPlace t (seen r d) (first + length x - 1) → edgeRight q ≡ g → g .limit ≡ high → high ≡ limitUnder e (first + length x) (q .next) → stop ≡ firstAt high → Ahead r (lineWith r t s d column x) stop q
+  pub first-ahead : (e : List ℤ) (q : Pair) (g : Edge) {high stop : ℕ} → 0 < length x → Among r (length d) q → q .column ≡ first + length x - 1 → q .d0 ≡ getD (seen r x) (length x - 1) 0 → q .d1 ≡ getD (seen r d) (first + length x) 0 → q .here ≡ quarter (q .column) - getD t (q .d0) 0 → q .next ≡ nextPlace t (seen r d) (first + length x - 1) → edgeRight q ≡ g → g .limit ≡ high → high ≡ limitUnder e (first + length x) (q .next) → stop ≡ firstAt high → Ahead r (lineWith tear r t s d column x) stop q
   first-ahead e q g {high} some among ec e0 e1 eh en er eg el es =
       let inside : q .column - first ≡ length x - 1 = omega arith in
       let after : q .column + 1 ≡ first + length x = omega arith in

@@ -9,6 +9,7 @@ use mathlib.Core.Bool.{Bool}
 use mathlib.Core.List.{List}
 use lib.ListN.{length, getD}
 use lib.IntN.{ℤ, pos}
+use Rattle.model.specs.declared.Tear.{Tear}
 use Rattle.model.specs.declared.Pixel.{Pixel}
 use Rattle.model.specs.declared.Block.{Block}
 use Rattle.model.specs.Lists.{rowOf, sumTo}
@@ -43,8 +44,9 @@ pub record Beside (w : ℕ) (samples fronts marks combined : List ℕ) : Type 0 
   pub marks-wide : w ≤ 8 * length marks
   pub combined-wide : length combined ≡ w
 
--- What is tried: a view's table, texture, depths and held limits, of one row or of all.
+-- What is tried: where rows tear, and a view's table, texture, depths and held limits, of one row or of all.
 pub record Own : Type 0 where
+  pub tear : Tear
   pub table : List ℕ
   pub texture : List ℕ
   pub depths : List ℕ
@@ -62,8 +64,8 @@ pub record Around : Type 0 where
   pub combined : List ℕ
   pub reference : List ℕ
 
-abbrev pub own : List ℕ → List ℕ → List ℕ → List ℤ → Own
-own table texture depths limits = record { table = table; texture = texture; depths = depths; limits = limits }
+abbrev pub own : Tear → List ℕ → List ℕ → List ℕ → List ℤ → Own
+own tear table texture depths limits = record { tear = tear; table = table; texture = texture; depths = depths; limits = limits }
 
 abbrev pub around : Bool → ℕ → ℕ → List ℕ → List ℕ → List ℕ → List ℕ → List ℕ → Around
 around right share tolerance samples fronts marks combined reference =
@@ -80,10 +82,10 @@ around right share tolerance samples fronts marks combined reference =
 
 -- the row as the view reads it: as it stands, and with the candidate x in the columns from `first` on
 abbrev pub standing : Bool → Own → Line
-standing right v = line (v .table) (seen right (v .texture)) (seen right (v .depths))
+standing right v = line (v .tear) (v .table) (seen right (v .texture)) (seen right (v .depths))
 
 abbrev pub tried : Bool → Own → List ℕ → ℕ → Line
-tried right v x first = line (v .table) (seen right (v .texture)) (splice (seen right (v .depths)) first (seen right x))
+tried right v x first = line (v .tear) (v .table) (seen right (v .texture)) (splice (seen right (v .depths)) first (seen right x))
 
 -- the combined sample at entry i, where the view shows q there
 abbrev pub combinedWith : Around → Pixel → ℕ → ℕ
@@ -149,7 +151,7 @@ pub record RowTrial (o : Around) (v : Own) (x : List ℕ) (first old new : ℕ) 
 
 -- row y of the planes
 abbrev pub ownRow : ℕ → Own → ℕ → Own
-ownRow w v y = own (v .table) (rowOf (v .texture) w y) (rowOf (v .depths) w y) (rowOf (v .limits) w y)
+ownRow w v y = own (v .tear) (v .table) (rowOf (v .texture) w y) (rowOf (v .depths) w y) (rowOf (v .limits) w y)
 
 abbrev pub aroundRow : ℕ → Around → ℕ → Around
 aroundRow w o y =

@@ -1,6 +1,7 @@
 // What a candidate would change: each of the block's rows drawn over the span alone, strip by strip from the right, and measured.
 use model::Candidate;
 use model::Pixel;
+use model::Tear;
 use pixel::Pair;
 ghost use Prim.Native.Nat.{ℕ, _+_, _-_, _*_, _/_, _≤_, _<_, min};
 ghost use mathlib.Core.Path.{_≡_};
@@ -165,6 +166,7 @@ fn measure(
 
 // The trial of the positions from `start` on: drawn into the strip, samples s, front depths f and marks m, then measured.
 fn trial_into(
+    tear: Tear,
     right: bool,
     table: &[u16; 256],
     squares: &[u32; 1024],
@@ -187,13 +189,14 @@ fn trial_into(
 ) -> Strip
     requires { ⌜ (Squares (now squares)) × (share ≤ 64) ⌝ }
     requires { ⌜ Beside (length (now reference)) (now samples) (now fronts) (now marks) (now combined) ⌝ }
-    requires { ⌜ (Ready (lineWith right (now table) (now texture) (now depths) column (now candidate))) × ((column + length (now candidate) ≤ length (now depths)) × (length (now reference) ≡ length (now depths))) ⌝ }
-    requires { ⌜ (Ahead right (lineWith right (now table) (now texture) (now depths) column (now candidate)) (start + length (now s)) from) × ((length (now f) ≡ length (now s)) × (length (now m) ≡ length (now s))) ⌝ }
+    requires { ⌜ (Ready (lineWith tear right (now table) (now texture) (now depths) column (now candidate))) × ((column + length (now candidate) ≤ length (now depths)) × (length (now reference) ≡ length (now depths))) ⌝ }
+    requires { ⌜ (Ahead right (lineWith tear right (now table) (now texture) (now depths) column (now candidate)) (start + length (now s)) from) × ((length (now f) ≡ length (now s)) × (length (now m) ≡ length (now s))) ⌝ }
     ensures { λ r. ⌜ Stretch (around right share tolerance (now (samples .entry)) (now (fronts .entry)) (now (marks .entry)) (now (combined .entry)) (now (reference .entry)))
-        (lineWith right (now (table .entry)) (now (texture .entry)) (now (depths .entry)) column (now (candidate .entry))) start (start + length (now (s .entry))) from (r .pair) (r .old) (r .new) ⌝ }
+        (lineWith tear right (now (table .entry)) (now (texture .entry)) (now (depths .entry)) column (now (candidate .entry))) start (start + length (now (s .entry))) from (r .pair) (r .old) (r .new) ⌝ }
 {
     let n = s.len();
     let pair = row::draw_span(
+        tear,
         right,
         table,
         texture,
@@ -245,6 +248,7 @@ fn room() -> [u8; 32]
 
 // The same of n positions, at most 32. A strip is short, since it is cleared for every row; a longer span takes several.
 fn trial_strip(
+    tear: Tear,
     right: bool,
     table: &[u16; 256],
     squares: &[u32; 1024],
@@ -265,15 +269,16 @@ fn trial_strip(
 ) -> Strip
     requires { ⌜ (Squares (now squares)) × (share ≤ 64) ⌝ }
     requires { ⌜ Beside (length (now reference)) (now samples) (now fronts) (now marks) (now combined) ⌝ }
-    requires { ⌜ (Ready (lineWith right (now table) (now texture) (now depths) column (now candidate))) × ((column + length (now candidate) ≤ length (now depths)) × (length (now reference) ≡ length (now depths))) ⌝ }
-    requires { ⌜ (Ahead right (lineWith right (now table) (now texture) (now depths) column (now candidate)) (start + n) from) × (n ≤ 32) ⌝ }
+    requires { ⌜ (Ready (lineWith tear right (now table) (now texture) (now depths) column (now candidate))) × ((column + length (now candidate) ≤ length (now depths)) × (length (now reference) ≡ length (now depths))) ⌝ }
+    requires { ⌜ (Ahead right (lineWith tear right (now table) (now texture) (now depths) column (now candidate)) (start + n) from) × (n ≤ 32) ⌝ }
     ensures { λ r. ⌜ Stretch (around right share tolerance (now (samples .entry)) (now (fronts .entry)) (now (marks .entry)) (now (combined .entry)) (now (reference .entry)))
-        (lineWith right (now (table .entry)) (now (texture .entry)) (now (depths .entry)) column (now (candidate .entry))) start (start + n) from (r .pair) (r .old) (r .new) ⌝ }
+        (lineWith tear right (now (table .entry)) (now (texture .entry)) (now (depths .entry)) column (now (candidate .entry))) start (start + n) from (r .pair) (r .old) (r .new) ⌝ }
 {
     let mut s = sample_room();
     let mut f = room();
     let mut m = room();
     trial_into(
+        tear,
         right,
         table,
         squares,
@@ -306,6 +311,7 @@ fn strip_start(start: usize, top: usize) -> usize
 
 // The trial of the positions from `start` up to `stop`, strip by strip from the right.
 fn trial_strips(
+    tear: Tear,
     right: bool,
     table: &[u16; 256],
     squares: &[u32; 1024],
@@ -326,10 +332,10 @@ fn trial_strips(
 ) -> Sums
     requires { ⌜ (Squares (now squares)) × (share ≤ 64) ⌝ }
     requires { ⌜ Beside (length (now reference)) (now samples) (now fronts) (now marks) (now combined) ⌝ }
-    requires { ⌜ (Ready (lineWith right (now table) (now texture) (now depths) column (now candidate))) × ((column + length (now candidate) ≤ length (now depths)) × (length (now reference) ≡ length (now depths))) ⌝ }
-    requires { ⌜ Ahead right (lineWith right (now table) (now texture) (now depths) column (now candidate)) stop from ⌝ }
+    requires { ⌜ (Ready (lineWith tear right (now table) (now texture) (now depths) column (now candidate))) × ((column + length (now candidate) ≤ length (now depths)) × (length (now reference) ≡ length (now depths))) ⌝ }
+    requires { ⌜ Ahead right (lineWith tear right (now table) (now texture) (now depths) column (now candidate)) stop from ⌝ }
     ensures { λ r. ⌜ Summed (around right share tolerance (now (samples .entry)) (now (fronts .entry)) (now (marks .entry)) (now (combined .entry)) (now (reference .entry))) (length (now (reference .entry)))
-        (pixelBelow (lineWith right (now (table .entry)) (now (texture .entry)) (now (depths .entry)) column (now (candidate .entry))) (from .column + 1) (edgeRight from)) (min start stop) stop (r .old) (r .new) ⌝ }
+        (pixelBelow (lineWith tear right (now (table .entry)) (now (texture .entry)) (now (depths .entry)) column (now (candidate .entry))) (from .column + 1) (edgeRight from)) (min start stop) stop (r .old) (r .new) ⌝ }
 {
     let mut q = from;
     let mut top = stop;
@@ -338,6 +344,7 @@ fn trial_strips(
     while start < top {
         let bottom = strip_start(start, top);
         let strip = trial_strip(
+            tear,
             right,
             table,
             squares,
@@ -366,6 +373,7 @@ fn trial_strips(
 
 // The two sums of a row's trial, over the positions that the candidate can change.
 fn trial_row(
+    tear: Tear,
     right: bool,
     table: &[u16; 256],
     squares: &[u32; 1024],
@@ -387,7 +395,7 @@ fn trial_row(
     requires { ⌜ Beside (length (now reference)) (now samples) (now fronts) (now marks) (now combined) ⌝ }
     requires { ⌜ (0 < length (now candidate)) × ((first + length (now candidate) ≤ length (now depths)) × (length (now reference) ≤ 4096)) ⌝ }
     ensures { λ r. ⌜ RowTrial (around right share tolerance (now (samples .entry)) (now (fronts .entry)) (now (marks .entry)) (now (combined .entry)) (now (reference .entry)))
-        (own (now (table .entry)) (now (texture .entry)) (now (depths .entry)) (now (limits .entry))) (now (candidate .entry)) first (r .old) (r .new) ⌝ }
+        (own tear (now (table .entry)) (now (texture .entry)) (now (depths .entry)) (now (limits .entry))) (now (candidate .entry)) first (r .old) (r .new) ⌝ }
 {
     let w = depths.len();
     let width = candidate.len();
@@ -401,6 +409,7 @@ fn trial_row(
     let edge = row::edge_of(right, limits, n, high);
     let from = row::pair_of(right, table, w, n - 1, d0, d1, next, edge);
     trial_strips(
+        tear,
         right,
         table,
         squares,
@@ -423,6 +432,7 @@ fn trial_row(
 
 // The same of row y, where what stands beside it is lent whole.
 fn trial_beside(
+    tear: Tear,
     right: bool,
     table: &[u16; 256],
     squares: &[u32; 1024],
@@ -446,7 +456,7 @@ fn trial_beside(
     requires { ⌜ (length (now depths) ≡ w) × ((length (now texture) ≡ w) × (length (now limits) ≡ w)) ⌝ }
     requires { ⌜ (0 < length (now candidate)) × ((first + length (now candidate) ≤ w) × (w ≤ 4096)) ⌝ }
     ensures { λ r. ⌜ RowTrial (aroundRow w (around right share tolerance (now (samples .entry)) (now (fronts .entry)) (now (marks .entry)) (now (combined .entry)) (now (reference .entry))) y)
-        (own (now (table .entry)) (now (texture .entry)) (now (depths .entry)) (now (limits .entry))) (now (candidate .entry)) first (r .old) (r .new) ⌝ }
+        (own tear (now (table .entry)) (now (texture .entry)) (now (depths .entry)) (now (limits .entry))) (now (candidate .entry)) first (r .old) (r .new) ⌝ }
 {
     let bytes = (w + 7) / 8;
     let p = y * w;
@@ -454,6 +464,7 @@ fn trial_beside(
     let m = y * bytes;
     let n = m + bytes;
     trial_row(
+        tear,
         right,
         table,
         squares,
@@ -474,6 +485,7 @@ fn trial_beside(
 
 // The same of row y of the planes and row i of the candidate, which is `width` wide.
 fn trial_at(
+    tear: Tear,
     right: bool,
     table: &[u16; 256],
     squares: &[u32; 1024],
@@ -495,17 +507,18 @@ fn trial_at(
     reference: &[u16],
 ) -> Sums
     requires { ⌜ (tableOk (now table) ≡ true) × ((Squares (now squares)) × (share ≤ 64)) ⌝ }
-    requires { ⌜ OwnRowIn w y (own (now table) (now texture) (now depths) (now limits)) ⌝ }
+    requires { ⌜ OwnRowIn w y (own tear (now table) (now texture) (now depths) (now limits)) ⌝ }
     requires { ⌜ AroundRowIn w y (around right share tolerance (now samples) (now fronts) (now marks) (now combined) (now reference)) ⌝ }
     requires { ⌜ (i * width + width ≤ length (now candidate)) × ((0 < width) × ((first + width ≤ w) × (w ≤ 4096))) ⌝ }
     ensures { λ r. ⌜ RowTrial (aroundRow w (around right share tolerance (now (samples .entry)) (now (fronts .entry)) (now (marks .entry)) (now (combined .entry)) (now (reference .entry))) y)
-        (ownRow w (own (now (table .entry)) (now (texture .entry)) (now (depths .entry)) (now (limits .entry))) y) (rowOf (now (candidate .entry)) width i) first (r .old) (r .new) ⌝ }
+        (ownRow w (own tear (now (table .entry)) (now (texture .entry)) (now (depths .entry)) (now (limits .entry))) y) (rowOf (now (candidate .entry)) width i) first (r .old) (r .new) ⌝ }
 {
     let p = y * w;
     let q = p + w;
     let m = i * width;
     let n = m + width;
     trial_beside(
+        tear,
         right,
         table,
         squares,
@@ -530,6 +543,7 @@ fn trial_at(
 // fronts and marks the other view's. The slices are lent on as new ones: the compiler then passes pointers and lengths, and the caller stores no
 // slice in memory.
 pub fn trial_block(
+    tear: Tear,
     right: bool,
     table: &[u16; 256],
     share: u8,
@@ -551,10 +565,10 @@ pub fn trial_block(
     reference: &[u16],
 ) -> Sums
     requires { ⌜ (tableOk (now table) ≡ true) × (share ≤ 64) ⌝ }
-    requires { ⌜ Sized w h (around right share tolerance (now samples) (now fronts) (now marks) (now combined) (now reference)) (own (now table) (now texture) (now depths) (now limits)) ⌝ }
+    requires { ⌜ Sized w h (around right share tolerance (now samples) (now fronts) (now marks) (now combined) (now reference)) (own tear (now table) (now texture) (now depths) (now limits)) ⌝ }
     requires { ⌜ Fits w h (blockOf column row width height) (now candidate) ⌝ }
     ensures { λ r. ⌜ BlockTrial w (around right share tolerance (now (samples .entry)) (now (fronts .entry)) (now (marks .entry)) (now (combined .entry)) (now (reference .entry)))
-        (own (now (table .entry)) (now (texture .entry)) (now (depths .entry)) (now (limits .entry))) (blockOf column row width height) (now (candidate .entry)) height (r .old) (r .new) ⌝ }
+        (own tear (now (table .entry)) (now (texture .entry)) (now (depths .entry)) (now (limits .entry))) (blockOf column row width height) (now (candidate .entry)) height (r .old) (r .new) ⌝ }
 {
     let squares = sums::squares();
     let first = row::part_start(right, w, column, column + width);
@@ -563,6 +577,7 @@ pub fn trial_block(
     let mut i = 0;
     while i < height {
         let s = trial_at(
+            tear,
             right,
             table,
             &squares,
@@ -600,6 +615,7 @@ fn fewer(a: usize, b: usize) -> usize
 
 // The same for a candidate whose rows are made: as many of them as the room holds, and these are then tried together, as a block of their own.
 fn trial_by_rooms(
+    tear: Tear,
     right: bool,
     table: &[u16; 256],
     share: u8,
@@ -623,11 +639,11 @@ fn trial_by_rooms(
     reference: &[u16],
 ) -> Sums
     requires { ⌜ (tableOk (now table) ≡ true) × (share ≤ 64) ⌝ }
-    requires { ⌜ Sized w h (around right share tolerance (now samples) (now fronts) (now marks) (now combined) (now reference)) (own (now table) (now texture) (now depths) (now limits)) ⌝ }
+    requires { ⌜ Sized w h (around right share tolerance (now samples) (now fronts) (now marks) (now combined) (now reference)) (own tear (now table) (now texture) (now depths) (now limits)) ⌝ }
     requires { ⌜ (Fits w h (blockOf column row width height) (filled (blockOf column row width height) candidate (now bytes))) × (candidateThen (blockOf column row width height) candidate (length (now bytes)) 0 ≡ 0) ⌝ }
     requires { ⌜ (isLent candidate ≡ false) × ((width ≤ length (now room)) × (length (now room) ≤ 4096)) ⌝ }
     ensures { λ r. ⌜ BlockTrial w (around right share tolerance (now (samples .entry)) (now (fronts .entry)) (now (marks .entry)) (now (combined .entry)) (now (reference .entry)))
-        (own (now (table .entry)) (now (texture .entry)) (now (depths .entry)) (now (limits .entry))) (blockOf column row width height) (filled (blockOf column row width height) candidate (now (bytes .entry))) height (r .old) (r .new) ⌝ }
+        (own tear (now (table .entry)) (now (texture .entry)) (now (depths .entry)) (now (limits .entry))) (blockOf column row width height) (filled (blockOf column row width height) candidate (now (bytes .entry))) height (r .old) (r .new) ⌝ }
 {
     let most = room.len() / width;
     fill::start(candidate, room);
@@ -639,6 +655,7 @@ fn trial_by_rooms(
         let end = n * width;
         fill::fill_rows(candidate, bytes, width, done, n, &mut room[..end]);
         let part = trial_block(
+            tear,
             right,
             table,
             share,
@@ -668,6 +685,7 @@ fn trial_by_rooms(
 
 // The same in a room of its own.
 pub fn trial_made(
+    tear: Tear,
     right: bool,
     table: &[u16; 256],
     share: u8,
@@ -690,15 +708,16 @@ pub fn trial_made(
     reference: &[u16],
 ) -> Sums
     requires { ⌜ (tableOk (now table) ≡ true) × (share ≤ 64) ⌝ }
-    requires { ⌜ Sized w h (around right share tolerance (now samples) (now fronts) (now marks) (now combined) (now reference)) (own (now table) (now texture) (now depths) (now limits)) ⌝ }
+    requires { ⌜ Sized w h (around right share tolerance (now samples) (now fronts) (now marks) (now combined) (now reference)) (own tear (now table) (now texture) (now depths) (now limits)) ⌝ }
     requires { ⌜ (Fits w h (blockOf column row width height) (filled (blockOf column row width height) candidate (now bytes))) × (candidateThen (blockOf column row width height) candidate (length (now bytes)) 0 ≡ 0) ⌝ }
     requires { ⌜ isLent candidate ≡ false ⌝ }
     ensures { λ r. ⌜ BlockTrial w (around right share tolerance (now (samples .entry)) (now (fronts .entry)) (now (marks .entry)) (now (combined .entry)) (now (reference .entry)))
-        (own (now (table .entry)) (now (texture .entry)) (now (depths .entry)) (now (limits .entry))) (blockOf column row width height) (filled (blockOf column row width height) candidate (now (bytes .entry))) height (r .old) (r .new) ⌝ }
+        (own tear (now (table .entry)) (now (texture .entry)) (now (depths .entry)) (now (limits .entry))) (blockOf column row width height) (filled (blockOf column row width height) candidate (now (bytes .entry))) height (r .old) (r .new) ⌝ }
 {
     if width <= 256 {
         let mut room = fill::short_room();
         return trial_by_rooms(
+            tear,
             right,
             table,
             share,
@@ -724,6 +743,7 @@ pub fn trial_made(
     }
     let mut room = fill::long_room();
     trial_by_rooms(
+        tear,
         right,
         table,
         share,
@@ -750,6 +770,7 @@ pub fn trial_made(
 
 // The two sums of a block's trial with a candidate of any kind.
 pub fn trial_candidate(
+    tear: Tear,
     right: bool,
     table: &[u16; 256],
     share: u8,
@@ -772,13 +793,14 @@ pub fn trial_candidate(
     reference: &[u16],
 ) -> Sums
     requires { ⌜ (tableOk (now table) ≡ true) × (share ≤ 64) ⌝ }
-    requires { ⌜ Sized w h (around right share tolerance (now samples) (now fronts) (now marks) (now combined) (now reference)) (own (now table) (now texture) (now depths) (now limits)) ⌝ }
+    requires { ⌜ Sized w h (around right share tolerance (now samples) (now fronts) (now marks) (now combined) (now reference)) (own tear (now table) (now texture) (now depths) (now limits)) ⌝ }
     requires { ⌜ (Fits w h (blockOf column row width height) (filled (blockOf column row width height) candidate (now bytes))) × (candidateThen (blockOf column row width height) candidate (length (now bytes)) 0 ≡ 0) ⌝ }
     ensures { λ r. ⌜ BlockTrial w (around right share tolerance (now (samples .entry)) (now (fronts .entry)) (now (marks .entry)) (now (combined .entry)) (now (reference .entry)))
-        (own (now (table .entry)) (now (texture .entry)) (now (depths .entry)) (now (limits .entry))) (blockOf column row width height) (filled (blockOf column row width height) candidate (now (bytes .entry))) height (r .old) (r .new) ⌝ }
+        (own tear (now (table .entry)) (now (texture .entry)) (now (depths .entry)) (now (limits .entry))) (blockOf column row width height) (filled (blockOf column row width height) candidate (now (bytes .entry))) height (r .old) (r .new) ⌝ }
 {
     if fill::lent(candidate) {
         return trial_block(
+            tear,
             right,
             table,
             share,
@@ -801,6 +823,7 @@ pub fn trial_candidate(
         );
     }
     trial_made(
+        tear,
         right,
         table,
         share,

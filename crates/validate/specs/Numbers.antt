@@ -3,10 +3,11 @@ use Prim.Native.Nat.{ℕ, _*_}
 use mathlib.Core.Bool.{Bool, _&&_}
 use mathlib.Core.List.{List, []}
 use lib.Dec.{leb, eqb}
+use Rattle.model.specs.declared.Tear.{Tear}
 use Rattle.model.specs.declared.Settings.{Settings}
 use Rattle.model.specs.declared.Block.{Block}
 use Rattle.model.specs.Marks.{markBytes}
-use Rattle.model.specs.Refusals.{unless, sideOk, tableOk, blockOk, viewOk}
+use Rattle.model.specs.Refusals.{unless, sideOk, tableOk, tearOk, blockOk, viewOk}
 use Rattle.validate.specs.declared.ViewLengths.{ViewLengths}
 use Rattle.validate.specs.declared.Lengths.{Lengths}
 
@@ -22,15 +23,15 @@ planesFit w h l =
     (viewFits (w * h) (markBytes w * h) (l .left) && viewFits (w * h) (markBytes w * h) (l .right))
     && (eqb (l .reference) (w * h) && eqb (l .combined) (w * h))
 
--- 1, 2, 3, 4, then the rest
-unfoldable pub commonNumber : ℕ → ℕ → List ℕ → List ℕ → ℕ → Lengths → ℕ → ℕ
-commonNumber w h left right share l rest =
+-- 1, 2, 3, 4, 20, then the rest
+unfoldable pub commonNumber : ℕ → ℕ → List ℕ → List ℕ → ℕ → Tear → Lengths → ℕ → ℕ
+commonNumber w h left right share tear l rest =
     unless (sideOk w && sideOk h) 1
-    (unless (planesFit w h l) 2 (unless (tableOk left && tableOk right) 3 (unless (leb share 64) 4 rest)))
+    (unless (planesFit w h l) 2 (unless (tableOk left && tableOk right) 3 (unless (leb share 64) 4 (unless (tearOk tear) 20 rest))))
 
 -- settings of w columns by h rows: all of the settings that 5 looks at
 abbrev pub sides : ℕ → ℕ → Settings
-sides w h = record { w = w; h = h; left = []; right = []; share = 0; tolerance = 0; total = 0 }
+sides w h = record { w = w; h = h; left = []; right = []; share = 0; tolerance = 0; tear = record { gap = 0; distance = 0 }; total = 0 }
 
 -- 6, 5, then the rest
 unfoldable pub ownNumber : ℕ → ℕ → ℕ → Block → ℕ → ℕ

@@ -1,15 +1,16 @@
-// The tests that turn a call down, in the order of its list. Of a plane they look at its length alone; the entries of a picture are a test apart, which only OPEN makes.
+// The tests that turn a call down, in the order of its list. Of a plane they look at its length alone; the entries of a picture are a test apart, which only OPEN and MOVE make.
 use model::Block;
 use model::Candidate;
 use model::Point;
 use model::Refusal;
 use model::Split;
+use model::Tear;
 ghost use mathlib.Core.Path.{_≡_};
 ghost use mathlib.Core.Bool.{cond, _&&_, _||_};
 ghost use Prim.Native.Nat.{_+_, _<_, _≤_};
 ghost use lib.Dec.{eqb};
 ghost use Rattle.model.specs.Candidates.{onBorder, sideShared, lineOk};
-ghost use Rattle.model.specs.Refusals.{numberOf, sideOk, tableOk, pictureOk, blockOk, candidateThen};
+ghost use Rattle.model.specs.Refusals.{numberOf, sideOk, tableOk, tearOk, pictureOk, blockOk, candidateThen};
 ghost use Rattle.validate.specs.Numbers.{viewFits, planesFit, commonNumber, sides, ownNumber};
 
 // The lengths of the planes of one view.
@@ -69,6 +70,19 @@ pub fn picture_ok(picture: &[u16]) -> bool
     joined <= 1023
 }
 
+// A widest gap of 4 to 64, and a distance of at most 3.
+pub fn tear_ok(tear: Tear) -> bool
+    ensures { λ r. ⌜ r ≡ tearOk tear ⌝ }
+{
+    if tear.gap < 4 {
+        return false;
+    }
+    if 64 < tear.gap {
+        return false;
+    }
+    tear.distance <= 3
+}
+
 // Every plane of a view has its exact length: n entries, and m bytes of marks.
 fn view_sized(n: usize, m: usize, lengths: ViewLengths) -> bool
     ensures { λ r. ⌜ r ≡ viewFits n m lengths ⌝ }
@@ -112,16 +126,17 @@ fn planes_sized(w: u32, h: u32, lengths: Lengths) -> bool
     lengths.combined == n
 }
 
-// 1, 2, 3 or 4, the first that applies.
+// 1, 2, 3, 4 or 20, the first that applies.
 pub fn common(
     w: u32,
     h: u32,
     left: &[u16; 256],
     right: &[u16; 256],
     share: u8,
+    tear: Tear,
     lengths: Lengths,
 ) -> Refusal
-    ensures { λ r. ⌜ numberOf r ≡ commonNumber w h (now (left .entry)) (now (right .entry)) share lengths 0 ⌝ }
+    ensures { λ r. ⌜ numberOf r ≡ commonNumber w h (now (left .entry)) (now (right .entry)) share tear lengths 0 ⌝ }
 {
     if !side_ok(w) {
         return Refusal::Size;
@@ -137,6 +152,9 @@ pub fn common(
     }
     if 64 < share {
         return Refusal::Share;
+    }
+    if !tear_ok(tear) {
+        return Refusal::Gap;
     }
     Refusal::None
 }
@@ -170,22 +188,13 @@ pub fn own(w: u32, h: u32, view: u32, block: Block) -> Refusal
     Refusal::None
 }
 
-// 1, 2, 3, 4, 6 or 5, the first that applies: all that GET and SET refuse before they look at the candidate.
-pub fn early<'a>(
-    w: u32,
-    h: u32,
-    left: &'a [u16; 256],
-    right: &'a [u16; 256],
-    share: u8,
-    lengths: Lengths,
-    view: u32,
-    block: Block,
-) -> Refusal
-    ensures { λ r. ⌜ numberOf r ≡ commonNumber w h (now (left .entry)) (now (right .entry)) share lengths (ownNumber w h view block 0) ⌝ }
+// What `common` refused, or else 6 or 5. GET and SET go step by step, `common`, this, `with_candidate`: the compiler takes a step into GET only as long as it is
+// small.
+pub fn with_block(common: Refusal, w: u32, h: u32, view: u32, block: Block) -> Refusal
+    ensures { λ r. ⌜ numberOf r ≡ cond (eqb (numberOf common) 0) (ownNumber w h view block 0) (numberOf common) ⌝ }
 {
-    let first = common(w, h, left, right, share, lengths);
-    if model::number(first) != 0 {
-        return first;
+    if model::number(common) != 0 {
+        return common;
     }
     own(w, h, view, block)
 }
@@ -284,7 +293,7 @@ fn candidate_refusal(block: Block, candidate: Candidate, n: usize) -> Refusal
     Refusal::None
 }
 
-// What was refused before, or else the candidate's own number. It is apart from `early`, which the compiler takes into GET only as long as it is small.
+// What was refused before, or else the candidate's own number.
 pub fn with_candidate(before: Refusal, block: Block, candidate: Candidate, n: usize) -> Refusal
     ensures { λ r. ⌜ numberOf r ≡ cond (eqb (numberOf before) 0) (candidateThen block candidate n 0) (numberOf before) ⌝ }
 {

@@ -1,21 +1,25 @@
 // The session of document 01, its cases without a star, every refusal alone and before the next, samples at and above the greatest, candidates of
-// every kind, SETs taken back, and HOLES of given marks: each line says what the entries answered.
+// every kind, SETs taken back, other gaps and distances, MOVE, and HOLES of given marks: each line says what the entries answered.
 use model::Block;
 use model::Candidate;
 use model::Count;
 use model::Edited;
+use model::Opened;
 use model::Point;
 use model::Refusal;
 use model::Report;
 use model::Settings;
 use model::Split;
+use model::Tear;
 ghost use mathlib.Core.Path.{_≡_};
+ghost use Prim.Native.Nat.{_≤_};
 ghost use lib.ListN.{length};
 
 // One turn of a session: GET, then SET where `write` says so, of a block of `view` and a candidate. The first `count` bytes of `room` are lent beside
 // it; in room 0 all are `depth`. The change is the one expected. Where `hand` says so, the total is first set to `total` by hand; where `spoil` does,
 // a held and a combined sample become `sample` after SET. Where `back` says so, the turn is TAKE BACK instead, of that change. The journal's word at
-// `place`, where there is one, is first set to `word` by hand.
+// `place`, where there is one, is first set to `word` by hand. Where `seat` is not 0, the turn is MOVE to that seat instead, with the first `count`
+// entries of reference `room`, and lends no word of the journal where `none` says so.
 struct Turn {
     view: u32,
     block: Block,
@@ -32,6 +36,8 @@ struct Turn {
     back: bool,
     place: usize,
     word: u32,
+    seat: usize,
+    none: bool,
 }
 
 // Prints a text.
@@ -96,23 +102,50 @@ fn say_journal(journal: &[u32]) {
     }
 }
 
-// The table whose entry d is d, but for its last entry.
-fn table(last: u16) -> [u16; 256]
+// The table whose entry d is d and a shift, but for its last entry.
+fn table(shift: u8, last: u16) -> [u16; 256]
     ensures { λ r. ⌜ 256 ≡ length r ⌝ }
 {
     let mut entries = [last; 256];
     let mut d: u16 = 0;
     while d < 255 {
-        entries[d as usize] = d;
+        entries[d as usize] = d + shift as u16;
         d += 1;
     }
     entries
 }
 
+// The settings of a seat: the shifts of its tables, the last entry of the right one, share, tolerance, gap and distance.
+fn placed(
+    leftShift: u8,
+    rightShift: u8,
+    rightLast: u16,
+    share: u8,
+    tolerance: u8,
+    gap: u8,
+    distance: u8,
+) -> Settings {
+    let left = table(leftShift, 255);
+    let right = table(rightShift, rightLast);
+    Settings {
+        w: 0,
+        h: 0,
+        left: left,
+        right: right,
+        share: share,
+        tolerance: tolerance,
+        tear: Tear {
+            gap: gap,
+            distance: distance,
+        },
+        total: 7,
+    }
+}
+
 // Settings with these last entries of the tables, a tolerance of 255 and a total that OPEN ignores.
 fn settings(w: u32, h: u32, leftLast: u16, rightLast: u16, share: u8) -> Settings {
-    let left = table(leftLast);
-    let right = table(rightLast);
+    let left = table(0, leftLast);
+    let right = table(0, rightLast);
     Settings {
         w: w,
         h: h,
@@ -120,8 +153,23 @@ fn settings(w: u32, h: u32, leftLast: u16, rightLast: u16, share: u8) -> Setting
         right: right,
         share: share,
         tolerance: 255,
+        tear: Tear {
+            gap: 8,
+            distance: 1,
+        },
         total: 7,
     }
+}
+
+// The same settings with another widest gap and nearest torn distance.
+fn torn(given: Settings, gap: u8, distance: u8) -> Settings {
+    let tear = Tear {
+        gap: gap,
+        distance: distance,
+    };
+    let mut next = given;
+    next.tear = tear;
+    next
 }
 
 // The block of one position.
@@ -152,6 +200,8 @@ fn request(view: u32, block: Block, depth: u8, change: i64, write: bool) -> Turn
         back: false,
         place: 4096,
         word: 0,
+        seat: 0,
+        none: false,
     }
 }
 
@@ -237,6 +287,8 @@ fn chosen(
         back: false,
         place: 4096,
         word: 0,
+        seat: 0,
+        none: false,
     }
 }
 
@@ -297,6 +349,23 @@ fn mask(block: Block, room: usize, count: usize, change: i64) -> Turn {
         split: Split::Mask,
     };
     chosen(0, block, candidate, room, count, change)
+}
+
+// MOVE to a seat with some entries of a reference.
+fn moves(seat: usize, room: usize, count: usize) -> Turn {
+    let block = one(0, 0);
+    let mut next = request(0, block, 0, 0, false);
+    next.seat = seat;
+    next.room = room;
+    next.count = count;
+    next
+}
+
+// The same turn with no word of the journal lent.
+fn unlent(given: Turn) -> Turn {
+    let mut next = given;
+    next.none = true;
+    next
 }
 
 // The turns of the session, from 0 on: k, l and m, then 8 and 7 before 8, holes of either view, the highest total, and CHECK's reports.
@@ -422,6 +491,45 @@ fn overlap_turn(i: usize) -> Turn {
     }
 }
 
+// The turns with another gap and distance, from 130 on: the widest gap is 4 and the distance 0, then 64 and 3.
+fn tear_turn(i: usize) -> Turn {
+    match i {
+        130 => writes(0, 2, 4, 100),
+        131 => writes(0, 3, 1, 0),
+        132 => writes(0, 2, 5, 136),
+        133 => writes(0, 3, 3, 97),
+        _ => overlap_turn(i),
+    }
+}
+
+// The turns that move, from 140 on: after a SET MOVE is refused, each number before the next, and the SET is taken back; from 152 on it is accepted, and
+// there is nothing to take back; at 159 it is passed settings that OPEN refused.
+fn move_turn(i: usize) -> Turn {
+    match i {
+        140 => writes(0, 2, 4, 31731),
+        141 => moves(3, 0, 3),
+        142 => moves(3, 0, 4),
+        143 => moves(4, 0, 4),
+        144 => unlent(moves(5, 0, 4)),
+        145 => moves(6, 0, 4),
+        146 => moves(7, 0, 4),
+        147 => unlent(moves(1, 2, 4)),
+        148 => moves(1, 2, 4),
+        149 => back(-31731),
+        150 => writes(0, 2, 5, 399975),
+        151 => writes(1, 1, 7, -305243),
+        152 => moves(1, 1, 4),
+        153 => back(0),
+        154 => writes(0, 1, 3, 17765),
+        155 => back(-17765),
+        156 => writes(1, 0, 3, -3266),
+        157 => moves(2, 1, 4),
+        158 => back(0),
+        159 => moves(2, 0, 4),
+        _ => tear_turn(i),
+    }
+}
+
 // The turns at a near edge of each view, from 40 on. At the last of each its column lies two past the block's and is the greater of two that are
 // placed there, and the answer depends on it.
 fn edge_turn(i: usize) -> Turn {
@@ -434,7 +542,7 @@ fn edge_turn(i: usize) -> Turn {
         45 => writes(1, 0, 11, 500),
         46 => writes(1, 2, 3, -900),
         47 => writes(1, 2, 0, 900),
-        _ => overlap_turn(i),
+        _ => move_turn(i),
     }
 }
 
@@ -477,9 +585,19 @@ fn bend(place: usize, word: u32, journal: &mut [u32]) {
     }
 }
 
-// OPEN, with what it answered.
+// Prints what OPEN or MOVE answered.
+fn say_opened(word: &[u8], answer: Opened) -> Settings {
+    let refusal = answer.refusal;
+    let next = answer.settings;
+    say_number(word, model::number(refusal) as u64);
+    say_number(b" total ", next.total);
+    next
+}
+
+// OPEN, where the session is not yet open, with what it answered.
 fn opened(
     given: Settings,
+    opens: bool,
     left: &[u16],
     right: &[u16],
     reference: &[u16],
@@ -496,6 +614,9 @@ fn opened(
     combined: &mut [u16],
     journal: &mut [u32],
 ) -> Settings {
+    if !opens {
+        return given;
+    }
     let answer = open::open(
         given,
         left,
@@ -514,16 +635,21 @@ fn opened(
         combined,
         journal,
     );
-    let refusal = answer.refusal;
-    let next = answer.settings;
-    say_number(b": open ", model::number(refusal) as u64);
-    say_number(b" total ", next.total);
+    let next = say_opened(b": open ", answer);
     say_journal(journal);
     say(b"\n");
     next
 }
 
-// GET, unless the turn takes back, with what it answered.
+// Whether a turn is GET and SET.
+fn asks(turn: Turn) -> bool {
+    if turn.back {
+        return false;
+    }
+    turn.seat == 0
+}
+
+// GET, unless the turn takes back or moves, with what it answered.
 fn tried(
     given: Settings,
     turn: Turn,
@@ -543,7 +669,7 @@ fn tried(
     combined: &[u16],
     bytes: &[u8],
 ) {
-    if turn.back {
+    if !asks(turn) {
         return;
     }
     let block = turn.block;
@@ -584,7 +710,145 @@ fn say_edited(word: &[u8], answer: Edited, expected: i64) -> Settings {
     next
 }
 
-// TAKE BACK where the turn takes back, or SET where it writes, with what it answered.
+// The seats that a turn moves to: two that are accepted; an entry of 1,024 and a share of 65; a share of 65 and a gap of 3; a gap of 3, one of 65, and
+// a distance of 4. MOVE does not take their w, h and total.
+fn seat_of(seat: usize) -> Settings {
+    match seat {
+        1 => placed(1, 2, 255, 24, 3, 4, 3),
+        2 => placed(3, 0, 1023, 48, 255, 64, 0),
+        3 => placed(0, 0, 1024, 65, 3, 8, 1),
+        4 => placed(0, 0, 255, 65, 3, 3, 1),
+        5 => placed(0, 0, 255, 64, 3, 3, 1),
+        6 => placed(0, 0, 255, 64, 3, 65, 1),
+        _ => placed(0, 0, 255, 64, 3, 8, 4),
+    }
+}
+
+// The references of MOVE.
+fn reference_of(room: usize) -> [u16; 4]
+    ensures { λ r. ⌜ 4 ≡ length r ⌝ }
+{
+    match room {
+        0 => [10, 20, 30, 40],
+        1 => [12, 90, 300, 41],
+        _ => [10, 20, 1024, 40],
+    }
+}
+
+// A count, or the most where it is above.
+fn at_most(count: usize, most: usize) -> usize
+    ensures { λ r. ⌜ r ≤ most ⌝ }
+{
+    if count < most {
+        return count;
+    }
+    most
+}
+
+// The number of words of a journal that a turn lends.
+fn lent(none: bool, words: usize) -> usize
+    ensures { λ r. ⌜ r ≤ words ⌝ }
+{
+    if none {
+        return 0;
+    }
+    words
+}
+
+// TAKE BACK where the turn takes back, with what it answered.
+fn taken(
+    given: Settings,
+    turn: Turn,
+    left: &[u16],
+    right: &[u16],
+    reference: &[u16],
+    leftDepths: &mut [u8],
+    rightDepths: &mut [u8],
+    leftSamples: &mut [u16],
+    leftFronts: &mut [u8],
+    leftLimits: &mut [i16],
+    leftMarks: &mut [u8],
+    rightSamples: &mut [u16],
+    rightFronts: &mut [u8],
+    rightLimits: &mut [i16],
+    rightMarks: &mut [u8],
+    combined: &mut [u16],
+    journal: &mut [u32],
+) -> Settings {
+    if !turn.back {
+        return given;
+    }
+    let answer = take_back::take_back(
+        given,
+        left,
+        right,
+        reference,
+        leftDepths,
+        rightDepths,
+        leftSamples,
+        leftFronts,
+        leftLimits,
+        leftMarks,
+        rightSamples,
+        rightFronts,
+        rightLimits,
+        rightMarks,
+        combined,
+        journal,
+    );
+    say_edited(b" ", answer, turn.change)
+}
+
+// MOVE where the turn moves, with what it answered and the combined picture.
+fn shifted(
+    given: Settings,
+    turn: Turn,
+    left: &[u16],
+    right: &[u16],
+    leftDepths: &[u8],
+    rightDepths: &[u8],
+    leftSamples: &mut [u16],
+    leftFronts: &mut [u8],
+    leftLimits: &mut [i16],
+    leftMarks: &mut [u8],
+    rightSamples: &mut [u16],
+    rightFronts: &mut [u8],
+    rightLimits: &mut [i16],
+    rightMarks: &mut [u8],
+    combined: &mut [u16],
+    journal: &mut [u32],
+) -> Settings {
+    if turn.seat == 0 {
+        return given;
+    }
+    let room = reference_of(turn.room);
+    let count = at_most(turn.count, 4);
+    let words = lent(turn.none, journal.len());
+    let answer = move_seat::move_seat(
+        given,
+        seat_of(turn.seat),
+        left,
+        right,
+        &room[..count],
+        leftDepths,
+        rightDepths,
+        leftSamples,
+        leftFronts,
+        leftLimits,
+        leftMarks,
+        rightSamples,
+        rightFronts,
+        rightLimits,
+        rightMarks,
+        combined,
+        &mut journal[..words],
+    );
+    let next = say_opened(b" ", answer);
+    say_samples(b" combined", combined);
+    next
+}
+
+// SET where the turn writes, with what it answered.
 fn written(
     given: Settings,
     turn: Turn,
@@ -605,27 +869,6 @@ fn written(
     journal: &mut [u32],
     bytes: &[u8],
 ) -> Settings {
-    if turn.back {
-        let answer = take_back::take_back(
-            given,
-            left,
-            right,
-            reference,
-            leftDepths,
-            rightDepths,
-            leftSamples,
-            leftFronts,
-            leftLimits,
-            leftMarks,
-            rightSamples,
-            rightFronts,
-            rightLimits,
-            rightMarks,
-            combined,
-            journal,
-        );
-        return say_edited(b" ", answer, turn.change);
-    }
     if !turn.write {
         return given;
     }
@@ -801,10 +1044,43 @@ fn say_asked(turn: Turn) {
     say_candidate(candidate, turn.room, turn.depth, turn.count);
 }
 
+// Prints a table by its first and last entry.
+fn say_table(word: &[u8], entries: [u16; 256]) {
+    say_number(word, entries[0] as u64);
+    say_number(b" ", entries[255] as u64);
+}
+
+// Prints the entries of a reference that a turn lends.
+fn say_reference(room: usize, count: usize) {
+    let entries = reference_of(room);
+    let lent = at_most(count, 4);
+    say_samples(b" reference", &entries[..lent]);
+}
+
+// Prints the seat that a turn moves to, and what it lends.
+fn say_seat(turn: Turn) {
+    let to = seat_of(turn.seat);
+    let left = to.left;
+    let right = to.right;
+    let tear = to.tear;
+    say_table(b"  move left ", left);
+    say_table(b" right ", right);
+    say_number(b" share ", to.share as u64);
+    say_number(b" tolerance ", to.tolerance as u64);
+    say_number(b" gap ", tear.gap as u64);
+    say_number(b" distance ", tear.distance as u64);
+    say_reference(turn.room, turn.count);
+    if turn.none {
+        say(b" no words");
+    }
+}
+
 // Prints what a turn asks for.
 fn say_turn(turn: Turn) {
     if turn.back {
         say(b"  take back");
+    } else if turn.seat != 0 {
+        say_seat(turn);
     } else {
         say_asked(turn);
     }
@@ -828,7 +1104,7 @@ fn passed(given: Settings, turn: Turn) -> Settings {
     next
 }
 
-// GET and SET of a turn.
+// TAKE BACK, or GET and SET, of a turn.
 fn edited(
     given: Settings,
     turn: Turn,
@@ -868,8 +1144,27 @@ fn edited(
         combined,
         bytes,
     );
-    written(
+    let next = taken(
         given,
+        turn,
+        left,
+        right,
+        reference,
+        leftDepths,
+        rightDepths,
+        leftSamples,
+        leftFronts,
+        leftLimits,
+        leftMarks,
+        rightSamples,
+        rightFronts,
+        rightLimits,
+        rightMarks,
+        combined,
+        journal,
+    );
+    written(
+        next,
         turn,
         left,
         right,
@@ -890,7 +1185,7 @@ fn edited(
     )
 }
 
-// GET and SET of a turn with its bytes, of which there are at most twelve.
+// MOVE of a turn, or its other calls with its bytes, of which there are at most twelve.
 fn took(
     given: Settings,
     turn: Turn,
@@ -910,13 +1205,28 @@ fn took(
     combined: &mut [u16],
     journal: &mut [u32],
 ) -> Settings {
-    let room = bytes_of(turn.room, turn.depth);
-    let count = turn.count;
-    if 12 < count {
-        return given;
-    }
-    edited(
+    let next = shifted(
         given,
+        turn,
+        left,
+        right,
+        leftDepths,
+        rightDepths,
+        leftSamples,
+        leftFronts,
+        leftLimits,
+        leftMarks,
+        rightSamples,
+        rightFronts,
+        rightLimits,
+        rightMarks,
+        combined,
+        journal,
+    );
+    let room = bytes_of(turn.room, turn.depth);
+    let count = at_most(turn.count, 12);
+    edited(
+        next,
         turn,
         left,
         right,
@@ -937,7 +1247,7 @@ fn took(
     )
 }
 
-// GET and SET of a turn, with what is done by hand before and after.
+// The calls of a turn, with what is done by hand before and after.
 fn moved(
     given: Settings,
     turn: Turn,
@@ -1086,14 +1396,12 @@ fn played(
     next
 }
 
-// OPEN over its pictures, and the turns from one on up to another over theirs.
+// OPEN, where the session is not yet open, and the turns from one on up to another.
 fn play(
     given: Settings,
+    opens: bool,
     start: usize,
     end: usize,
-    firstLeft: &[u16],
-    firstRight: &[u16],
-    firstReference: &[u16],
     left: &[u16],
     right: &[u16],
     reference: &[u16],
@@ -1109,12 +1417,13 @@ fn play(
     rightMarks: &mut [u8],
     combined: &mut [u16],
     journal: &mut [u32],
-) {
+) -> Settings {
     let mut now = opened(
         given,
-        firstLeft,
-        firstRight,
-        firstReference,
+        opens,
+        left,
+        right,
+        reference,
         leftDepths,
         rightDepths,
         leftSamples,
@@ -1152,13 +1461,15 @@ fn play(
         );
         i += 1;
     }
+    now
 }
 
-// A session of planes of four entries with depths of 0: OPEN over its pictures, and the turns over theirs.
+// A session of planes of four entries with depths of 0: OPEN and the turns before the middle one over its first pictures, the other turns over theirs.
 fn raised(
     title: &[u8],
     given: Settings,
     start: usize,
+    middle: usize,
     end: usize,
     firstLeft: &[u16],
     firstRight: &[u16],
@@ -1180,13 +1491,32 @@ fn raised(
     let mut rightMarks = [0u8; 1];
     let mut combined = [0u16; 4];
     say(title);
-    play(
+    let now = play(
         given,
+        true,
         start,
-        end,
+        middle,
         firstLeft,
         firstRight,
         firstReference,
+        &mut leftDepths,
+        &mut rightDepths,
+        &mut leftSamples,
+        &mut leftFronts,
+        &mut leftLimits,
+        &mut leftMarks,
+        &mut rightSamples,
+        &mut rightFronts,
+        &mut rightLimits,
+        &mut rightMarks,
+        &mut combined,
+        journal,
+    );
+    play(
+        now,
+        false,
+        middle,
+        end,
         left,
         right,
         reference,
@@ -1221,6 +1551,7 @@ fn pictured(
         given,
         start,
         end,
+        end,
         left,
         right,
         reference,
@@ -1244,6 +1575,7 @@ fn kept(title: &[u8], given: Settings, start: usize, end: usize, journal: &mut [
         title,
         given,
         start,
+        end,
         end,
         &texture,
         &texture,
@@ -1308,11 +1640,9 @@ fn square(title: &[u8], start: usize, end: usize, journal: &mut [u32]) {
     say(title);
     play(
         given,
+        true,
         start,
         end,
-        &texture,
-        &texture,
-        &reference,
         &texture,
         &texture,
         &reference,
@@ -1381,11 +1711,9 @@ fn wide(title: &[u8], given: Settings, start: usize, end: usize) {
     say(title);
     play(
         given,
+        true,
         start,
         end,
-        &texture,
-        &texture,
-        &reference,
         &texture,
         &texture,
         &reference,
@@ -1423,11 +1751,9 @@ fn tall(title: &[u8], given: Settings, start: usize, end: usize) {
     say(title);
     play(
         given,
+        true,
         start,
         end,
-        &texture,
-        &texture,
-        &reference,
         &texture,
         &texture,
         &reference,
@@ -1533,6 +1859,7 @@ fn run_samples() {
     raised(
         b"samples raised after open",
         given,
+        51,
         51,
         53,
         &bright,
@@ -1701,6 +2028,7 @@ fn run_words_order() {
         settings(4, 1, 255, 255, 0),
         0,
         0,
+        0,
         &above,
         &plain,
         &plain,
@@ -1708,6 +2036,55 @@ fn run_words_order() {
         &plain,
         &plain,
         &mut none,
+    );
+}
+
+// Sessions with the least and the greatest gap and distance, and what every entry refuses of them: 20 after 4, and before 6 and 13.
+fn run_tears() {
+    let given = settings(4, 1, 255, 255, 0);
+    small(b"gap 4, distance 0", torn(given, 4, 0), 130, 132);
+    small(b"gap 64, distance 3", torn(given, 64, 3), 132, 134);
+    small(b"gap 3", torn(given, 3, 1), 103, 105);
+    small(b"gap 65", torn(given, 65, 1), 103, 105);
+    small(b"distance 4", torn(given, 8, 4), 103, 105);
+    small(
+        b"4 before 20",
+        torn(settings(4, 1, 255, 255, 65), 3, 1),
+        33,
+        34,
+    );
+    small(b"20 before 6", torn(given, 3, 1), 33, 34);
+    let mut none = [0u32; 0];
+    kept(b"20 before 13", torn(given, 3, 1), 103, 105, &mut none);
+}
+
+// MOVE: what it refuses, after which the session is as it was, and then to two other seats. It is judged by w, h and what is new.
+fn run_move() {
+    let left = [10u16, 200, 30, 400];
+    let right = [90u16, 60, 700, 8];
+    let first = reference_of(0);
+    let second = reference_of(1);
+    let mut journal = [9u32; 15];
+    raised(
+        b"move",
+        settings(4, 1, 255, 255, 16),
+        140,
+        152,
+        159,
+        &left,
+        &right,
+        &first,
+        &left,
+        &right,
+        &second,
+        &mut journal,
+    );
+    small(b"w 0, move", settings(0, 1, 255, 255, 0), 159, 160);
+    small(
+        b"3, 4 and 20, move",
+        torn(settings(4, 1, 1024, 255, 65), 3, 4),
+        159,
+        160,
     );
 }
 
@@ -1776,6 +2153,52 @@ fn run_strip_order() {
     strip(b"row 3 before 6", settings(4, 1, 1024, 255, 0), 2, &near);
 }
 
+// RENDER of a row of four with a widest gap and a distance, and of the row read backwards in the right view.
+fn tears(gap: u8, distance: u8, a: u8, b: u8, c: u8, d: u8) {
+    let given = torn(settings(4, 1, 255, 255, 0), gap, distance);
+    let depths = [a, b, c, d];
+    let backwards = [d, c, b, a];
+    say_number(b"row gap ", gap as u64);
+    say_number(b" distance ", distance as u64);
+    say_entries(b" depths", &depths);
+    strip(b"", given, 0, &depths);
+    strip(b"  right", given, 1, &backwards);
+}
+
+// RENDER at the widest smooth gap and one beyond, at the distance and one beyond, between columns and in the last one, and at a near edge, whose 1 stays.
+fn run_strip_tears() {
+    tears(4, 1, 1, 1, 1, 0);
+    tears(4, 0, 1, 1, 1, 0);
+    tears(5, 0, 1, 1, 1, 0);
+    tears(8, 1, 0, 0, 4, 0);
+    tears(9, 1, 0, 0, 5, 0);
+    tears(64, 1, 0, 0, 60, 0);
+    tears(64, 1, 0, 0, 61, 0);
+    tears(4, 0, 0, 0, 5, 1);
+    tears(4, 1, 0, 0, 5, 1);
+    tears(4, 1, 0, 0, 6, 2);
+    tears(4, 3, 0, 0, 7, 3);
+    tears(4, 3, 0, 0, 8, 4);
+    tears(8, 0, 0, 0, 7, 0);
+    tears(8, 3, 0, 0, 6, 0);
+}
+
+// RENDER refuses 20 after 3 and before 6.
+fn run_strip_tears_refused() {
+    let near = [2u8, 2, 2, 2];
+    let given = settings(4, 1, 255, 255, 65);
+    strip(b"row gap 3", torn(given, 3, 1), 0, &near);
+    strip(b"row gap 65", torn(given, 65, 1), 1, &near);
+    strip(b"row distance 4", torn(given, 8, 4), 0, &near);
+    strip(
+        b"row 3 before 20",
+        torn(settings(4, 1, 255, 1024, 0), 3, 1),
+        0,
+        &near,
+    );
+    strip(b"row 20 before 6", torn(given, 3, 1), 2, &near);
+}
+
 // HOLES of each view.
 fn marked(title: &[u8], given: Settings, left: &[u8], right: &[u8]) {
     say(title);
@@ -1825,8 +2248,12 @@ fn main() {
     run_back();
     run_words();
     run_words_order();
+    run_tears();
+    run_move();
     run_strips();
     run_strip_samples();
     run_strip_order();
+    run_strip_tears();
+    run_strip_tears_refused();
     run_holes();
 }

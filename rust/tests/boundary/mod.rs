@@ -1,4 +1,4 @@
-//! GET, SET and TAKE BACK through the library's own symbols, declared here once more: a candidate of any kind, as a C program
+//! GET, SET, TAKE BACK and MOVE through the library's own symbols, declared here once more: a candidate of any kind, as a C program
 //! may pass it, and answers that a refused call must leave alone.
 #![allow(dead_code)] // each test program uses its own part
 
@@ -23,7 +23,7 @@ impl Shape {
 #[rustfmt::skip]
 extern "C" {
     fn luph_raw_get(
-        w: u32, h: u32, left: *const u16, right: *const u16, share: u8, tolerance: u8, total: u64,
+        w: u32, h: u32, left: *const u16, right: *const u16, share: u8, tolerance: u8, widest_gap: u8, torn_distance: u8, total: u64,
         left_texture: *const u16, left_texture_len: usize, right_texture: *const u16, right_texture_len: usize,
         reference: *const u16, reference_len: usize,
         left_depths: *const u8, left_depths_len: usize, right_depths: *const u8, right_depths_len: usize,
@@ -48,6 +48,19 @@ extern "C" {
         journal: *mut u32, journal_len: usize,
         view: u32, block: Block, shape: Shape, bytes: *const u8, bytes_len: usize,
         change: *mut i64, total: *mut u64,
+    ) -> u32;
+    fn luph_raw_move(
+        settings: Settings, to: Settings,
+        left_texture: *const u16, left_texture_len: usize, right_texture: *const u16, right_texture_len: usize,
+        reference: *const u16, reference_len: usize,
+        left_depths: *const u8, left_depths_len: usize, right_depths: *const u8, right_depths_len: usize,
+        left_samples: *mut u16, left_samples_len: usize, left_fronts: *mut u8, left_fronts_len: usize,
+        left_limits: *mut i16, left_limits_len: usize, left_marks: *mut u8, left_marks_len: usize,
+        right_samples: *mut u16, right_samples_len: usize, right_fronts: *mut u8, right_fronts_len: usize,
+        right_limits: *mut i16, right_limits_len: usize, right_marks: *mut u8, right_marks_len: usize,
+        combined: *mut u16, combined_len: usize,
+        journal: *mut u32, journal_len: usize,
+        total: *mut u64,
     ) -> u32;
     fn luph_raw_take_back(
         settings: Settings,
@@ -82,7 +95,8 @@ pub fn get(
     let number = unsafe {
         luph_raw_get(
             settings.w, settings.h, settings.left.as_ptr(), settings.right.as_ptr(), settings.share, settings.tolerance,
-            settings.total, lt.as_ptr(), lt.len(), rt.as_ptr(), rt.len(), reference.as_ptr(), reference.len(),
+            settings.widest_gap, settings.torn_distance, settings.total,
+            lt.as_ptr(), lt.len(), rt.as_ptr(), rt.len(), reference.as_ptr(), reference.len(),
             ld.as_ptr(), ld.len(), rd.as_ptr(), rd.len(),
             ls.as_ptr(), ls.len(), lf.as_ptr(), lf.len(), ll.as_ptr(), ll.len(), lm.as_ptr(), lm.len(),
             rs.as_ptr(), rs.len(), rf.as_ptr(), rf.len(), rl.as_ptr(), rl.len(), rm.as_ptr(), rm.len(),
@@ -138,6 +152,35 @@ pub fn take_back(
         )
     };
     written("TAKE BACK", settings, number, change, total)
+}
+
+#[rustfmt::skip]
+pub fn move_seat(
+    settings: &mut Settings, pictures: &Pictures, planes: &mut PlanesMut, journal: &mut [u32], to: &Settings,
+) -> Result<(), Refusal> {
+    let Pictures { textures: [lt, rt], reference } = pictures;
+    let PlanesMut { depths: [ld, rd], samples: [ls, rs], fronts: [lf, rf], limits: [ll, rl], marks: [lm, rm], combined } = planes;
+    let mut total = UNTOUCHED.1;
+    // SAFETY: pointers and lengths are those of slices that live through the call, and those lent for writing overlap no other.
+    let number = unsafe {
+        luph_raw_move(
+            *settings, *to, lt.as_ptr(), lt.len(), rt.as_ptr(), rt.len(), reference.as_ptr(), reference.len(),
+            ld.as_ptr(), ld.len(), rd.as_ptr(), rd.len(),
+            ls.as_mut_ptr(), ls.len(), lf.as_mut_ptr(), lf.len(), ll.as_mut_ptr(), ll.len(), lm.as_mut_ptr(), lm.len(),
+            rs.as_mut_ptr(), rs.len(), rf.as_mut_ptr(), rf.len(), rl.as_mut_ptr(), rl.len(), rm.as_mut_ptr(), rm.len(),
+            combined.as_mut_ptr(), combined.len(), journal.as_mut_ptr(), journal.len(), &mut total,
+        )
+    };
+    match number {
+        0 => {
+            *settings = Settings { w: settings.w, h: settings.h, total, ..*to };
+            Ok(())
+        }
+        _ => {
+            assert_eq!(total, UNTOUCHED.1, "a refused MOVE answered");
+            Err(refused(number))
+        }
+    }
 }
 
 /// The answer of a call that writes: the total goes into the settings, and a refused call has touched neither.

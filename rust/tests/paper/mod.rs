@@ -1,5 +1,5 @@
-//! The independent renderer: document 01 said again as plainly as it can be, each position drawn from its owner, and the
-//! journal of card 3.
+//! The independent renderer: document 01 said again as plainly as it can be, each position drawn from its owner, the journal of
+//! card 3, and the seat of card 11.
 //!
 //! It shares no code with the library and holds nothing between calls. It is slow on purpose: every question is answered
 //! by a fresh drawing of the whole picture.
@@ -45,14 +45,31 @@ pub struct DrawnRow {
     pub limits: Vec<i16>,
 }
 
-/// "One row of the left view".
+/// "One row of the left view", with the two numbers that card 11 has among the settings: the widest smooth gap and the nearest
+/// torn distance.
 pub struct LeftRow<'a> {
     pub table: &'a [u16; 256],
+    pub widest_gap: i32,
+    pub torn_distance: i32,
     pub texture: &'a [u16],
     pub depths: &'a [u8],
 }
 
-impl LeftRow<'_> {
+/// The kind of a pair follows from its gap.
+#[derive(Clone, Copy, Debug, PartialEq, Eq, PartialOrd, Ord)]
+pub enum Kind {
+    Hidden,
+    Smooth,
+    Torn,
+}
+
+impl<'a> LeftRow<'a> {
+    /// A row as the view reads it, with that view's table.
+    pub fn new(settings: &'a Settings, view: usize, texture: &'a [u16], depths: &'a [u8]) -> LeftRow<'a> {
+        let [widest_gap, torn_distance] = [settings.widest_gap, settings.torn_distance].map(i32::from);
+        LeftRow { table: table(settings, view), widest_gap, torn_distance, texture, depths }
+    }
+
     pub fn w(&self) -> usize {
         self.depths.len()
     }
@@ -80,6 +97,15 @@ impl LeftRow<'_> {
     /// The gap of column c, which is not the last.
     pub fn gap(&self, c: usize) -> i32 {
         self.place(c + 1) - self.place(c)
+    }
+
+    /// 0 or less is hidden and owns nothing; 1 to the widest gap is smooth; more is torn.
+    pub fn kind(&self, c: usize) -> Kind {
+        match self.gap(c) {
+            gap if gap <= 0 => Kind::Hidden,
+            gap if gap <= self.widest_gap => Kind::Smooth,
+            _ => Kind::Torn,
+        }
     }
 
     /// A near edge begins at the rounded place (card 7): let c be the owner of p, not the last column, and m the limit of
@@ -110,25 +136,23 @@ impl LeftRow<'_> {
         let t = 4 * p as i32 - self.place(c);
         let plain = |c: usize, mark: u8| Pixel { sample: self.sample(c), mark, front: self.depths[c] };
         if c == self.w() - 1 {
-            return plain(c, u8::from(t > 1));
+            return plain(c, u8::from(t > self.torn_distance));
         }
         if let Some(near) = self.near_edge(p) {
             return plain(near, 0);
         }
-        let gap = self.gap(c);
-        if gap <= 0 {
-            panic!("a hidden pair owns nothing");
-        } else if gap <= 8 {
-            let sample = match step(t, gap) {
-                0 => self.sample(c),
-                4 => self.sample(c + 1),
-                k => self.filtered(c, k).clamp(0, i32::from(WHITE)) as u16,
-            };
-            Pixel { sample, mark: 0, front: self.depths[c] }
-        } else if t <= 1 {
-            plain(c, 0)
-        } else {
-            plain(c + 1, 1)
+        match self.kind(c) {
+            Kind::Hidden => panic!("a hidden pair owns nothing"),
+            Kind::Smooth => {
+                let sample = match step(t, self.gap(c)) {
+                    0 => self.sample(c),
+                    4 => self.sample(c + 1),
+                    k => self.filtered(c, k).clamp(0, i32::from(WHITE)) as u16,
+                };
+                Pixel { sample, mark: 0, front: self.depths[c] }
+            }
+            Kind::Torn if t <= self.torn_distance => plain(c, 0),
+            Kind::Torn => plain(c + 1, 1),
         }
     }
 
@@ -150,11 +174,11 @@ pub fn reversed<T: Copy>(row: &[T]) -> Vec<T> {
 
 /// One row of view 0 or 1. The right view is the same rule over the row read backwards, its results written back in
 /// reverse.
-pub fn drawn_row(table: &[u16; 256], view: usize, texture: &[u16], depths: &[u8]) -> DrawnRow {
+pub fn drawn_row(settings: &Settings, view: usize, texture: &[u16], depths: &[u8]) -> DrawnRow {
     if view == 0 {
-        return LeftRow { table, texture, depths }.drawn();
+        return LeftRow::new(settings, view, texture, depths).drawn();
     }
-    let backwards = LeftRow { table, texture: &reversed(texture), depths: &reversed(depths) }.drawn();
+    let backwards = LeftRow::new(settings, view, &reversed(texture), &reversed(depths)).drawn();
     DrawnRow { pixels: reversed(&backwards.pixels), limits: reversed(&backwards.limits) }
 }
 
@@ -217,7 +241,7 @@ pub fn drawing(settings: &Settings, pictures: &Pictures, depths: [&[u8]; 2]) -> 
     };
     for y in 0..h {
         let part = y * w..(y + 1) * w;
-        let rows = [0, 1].map(|v| drawn_row(table(settings, v), v, &pictures.textures[v][part.clone()], &depths[v][part.clone()]));
+        let rows = [0, 1].map(|v| drawn_row(settings, v, &pictures.textures[v][part.clone()], &depths[v][part.clone()]));
         for (v, DrawnRow { pixels, limits }) in rows.iter().enumerate() {
             all.samples[v].extend(pixels.iter().map(|x| x.sample));
             all.fronts[v].extend(pixels.iter().map(|x| x.front));
@@ -312,7 +336,12 @@ pub fn tables_are_taken(settings: &Settings) -> bool {
     settings.left.iter().chain(&settings.right).all(|&entry| entry <= 1023)
 }
 
-/// CHECK refuses 1, 2, 3, 4. The number, 0 for none.
+/// The widest gap may be 4 to 64, the distance 0 to 3 (card 11).
+pub fn gaps_are_taken(settings: &Settings) -> bool {
+    (4..=64).contains(&settings.widest_gap) && (0..=3).contains(&settings.torn_distance)
+}
+
+/// CHECK refuses 1, 2, 3, 4, then 20. The number, 0 for none.
 pub fn common_number(settings: &Settings, pictures: &Pictures, planes: &Planes) -> u32 {
     if !side_is_taken(settings.w) || !side_is_taken(settings.h) {
         1
@@ -322,12 +351,25 @@ pub fn common_number(settings: &Settings, pictures: &Pictures, planes: &Planes) 
         3
     } else if settings.share > 64 {
         4
+    } else if !gaps_are_taken(settings) {
+        20
     } else {
         0
     }
 }
 
-/// OPEN refuses 1, 2, 3, 4, then 13, a journal of no words, then 21, a texture or reference entry above 1,023.
+/// The settings after an accepted MOVE, but for the total: tables, share, tolerance and the two numbers are new.
+pub fn moved(settings: &Settings, to: &Settings) -> Settings {
+    let Settings { left, right, share, tolerance, widest_gap, torn_distance, .. } = *to;
+    Settings { left, right, share, tolerance, widest_gap, torn_distance, ..*settings }
+}
+
+/// MOVE refuses as OPEN does, judged by w, h and what is new; the pictures have the new reference.
+pub fn move_number(settings: &Settings, to: &Settings, pictures: &Pictures, planes: &Planes, journal: &[u32]) -> u32 {
+    open_number(&moved(settings, to), pictures, planes, journal)
+}
+
+/// OPEN refuses 1, 2, 3, 4, 20, then 13, a journal of no words, then 21, a texture or reference entry above 1,023.
 pub fn open_number(settings: &Settings, pictures: &Pictures, planes: &Planes, journal: &[u32]) -> u32 {
     let common = common_number(settings, pictures, planes);
     let [left, right] = pictures.textures;
@@ -365,7 +407,7 @@ pub fn block_is_taken(settings: &Settings, block: Block) -> bool {
     width > 0 && height > 0 && column + width <= u64::from(settings.w) && row + height <= u64::from(settings.h)
 }
 
-/// GET and SET refuse 1, 2, 3, 4, 6, 5, then what the candidate's kind has, and then 8, which is left out here. What SET has
+/// GET and SET refuse 1, 2, 3, 4, 20, 6, 5, then what the candidate's kind has, and then 8, which is left out here. What SET has
 /// after 8 is `journal_number`.
 pub fn call_number(settings: &Settings, pictures: &Pictures, planes: &Planes, view: u32, block: Block, candidate: Candidate) -> u32 {
     let common = common_number(settings, pictures, planes);
@@ -451,7 +493,7 @@ pub fn journal_number(settings: &Settings, journal: &[u32], block: Block) -> u32
     }
 }
 
-/// TAKE BACK refuses 1, 2, 3, 4, 13, 12, and then 8, which is left out here.
+/// TAKE BACK refuses 1, 2, 3, 4, 20, 13, 12, and then 8, which is left out here.
 pub fn take_back_number(settings: &Settings, pictures: &Pictures, planes: &Planes, journal: &[u32]) -> u32 {
     match (common_number(settings, pictures, planes), chain(settings, journal)) {
         (0, None) => 13,
@@ -482,14 +524,14 @@ pub fn newest(settings: &Settings, journal: &[u32]) -> Record {
     chain(settings, journal).expect("TAKE BACK accepts the journal").swap_remove(0)
 }
 
-/// The journal with another word 0: that of the record before after an accepted TAKE BACK, zero after an accepted OPEN.
+/// The journal with another word 0: that of the record before after an accepted TAKE BACK, zero after an accepted OPEN or MOVE.
 pub fn with_newest(journal: &[u32], index: u32) -> Vec<u32> {
     let mut journal = journal.to_vec();
     journal[0] = index;
     journal
 }
 
-/// RENDER refuses 1, 2, 3, then 6; `lens` are those of texture, depths, samples and fronts.
+/// RENDER refuses 1, 2, 3, 20, then 6; `lens` are those of texture, depths, samples and fronts.
 pub fn render_number(settings: &Settings, view: u32, lens: [usize; 4], marks: usize) -> u32 {
     let w = settings.w as usize;
     if !side_is_taken(settings.w) {
@@ -498,6 +540,8 @@ pub fn render_number(settings: &Settings, view: u32, lens: [usize; 4], marks: us
         2
     } else if !tables_are_taken(settings) {
         3
+    } else if !gaps_are_taken(settings) {
+        20
     } else if view > 1 {
         6
     } else {
@@ -576,8 +620,8 @@ pub fn span(settings: &Settings, view: usize, block: Block, old: &[u8], new: &[u
     let (a, width) = (block.column as usize, block.width as usize);
     let a = if view == 0 { a } else { w - a - width };
     let b = a + width - 1;
-    let old = LeftRow { table: table(settings, view), texture: &[], depths: &old };
-    let new = LeftRow { table: table(settings, view), texture: &[], depths: &new };
+    let old = LeftRow::new(settings, view, &[], &old);
+    let new = LeftRow::new(settings, view, &[], &new);
     let mut low = (a..=b).map(|c| old.place(c).min(new.place(c))).min().expect("the block has a column");
     if a > 0 {
         low = low.min(old.place(a - 1));

@@ -114,17 +114,22 @@ pub fn size(random: &mut Random) -> (usize, usize) {
     }
 }
 
-/// A table of disparities: rising, falling, flat, a sample apart or wild, small or large.
-pub fn table(random: &mut Random, w: usize) -> [u16; 256] {
+/// A table of disparities: rising, falling, flat, a sample apart or wild, small or large, or such that neighbours may have the
+/// widest smooth gap, or a quarter more.
+fn table(random: &mut Random, w: usize, widest_gap: u8) -> [u16; 256] {
     let most = random.pick(&[3, 9, 20, 60, 4 * w.min(255), 255, 1023]);
     let entry = random.between(0, most);
-    match random.between(0, 7) {
+    match random.between(0, 8) {
         0 => std::array::from_fn(|d| d as u16),
         1 => std::array::from_fn(|d| (d * most / 255) as u16),
         2 => std::array::from_fn(|d| ((255 - d) * most / 255) as u16),
         3 => [entry as u16; 256],
         4 => std::array::from_fn(|_| random.pick(&[0, most as u16])),
         5 => std::array::from_fn(|_| random.pick(&[entry.saturating_sub(4), entry]) as u16),
+        6 => {
+            let (low, high) = (random.between(0, 3) as u16, u16::from(widest_gap) - 4);
+            std::array::from_fn(|_| low + random.pick(&[0, high, high, high + 1]))
+        }
         _ => std::array::from_fn(|_| random.between(0, most) as u16),
     }
 }
@@ -140,6 +145,77 @@ fn near_table(random: &mut Random, w: usize) -> [u16; 256] {
         0 => random.between(0, most) as u16,
         _ => (random.between(0, most) | 3) as u16,
     })
+}
+
+/// The tables of both views, one for both or two, for thin near things before a ground or for any depths.
+fn tables(random: &mut Random, w: usize, widest_gap: u8, near: bool) -> [[u16; 256]; 2] {
+    let table = |random: &mut Random| if near { near_table(random, w) } else { table(random, w, widest_gap) };
+    let left = table(random);
+    [left, if random.once_in(2) { left } else { table(random) }]
+}
+
+/// Share, tolerance, widest gap and torn distance by turns: every 244 turns have every two of the last two.
+fn in_turn(turn: u64) -> [u8; 4] {
+    [turn % 65, turn % 256, 4 + turn % 61, turn / 61 % 4].map(|number| number as u8)
+}
+
+/// A seat to move to: all of it new, or the tables, share and tolerance or the two numbers as they are. w, h and total are not
+/// looked at and may be anything.
+pub fn seat(random: &mut Random, settings: &Settings) -> Settings {
+    let mut to = Settings { w: random.word(), h: random.word(), total: random.next(), ..*settings };
+    let [share, tolerance, widest_gap, torn_distance] = in_turn(random.next());
+    if !random.once_in(4) {
+        (to.widest_gap, to.torn_distance) = (widest_gap, torn_distance);
+    }
+    if !random.once_in(4) {
+        (to.share, to.tolerance) = (share, tolerance);
+    }
+    if !random.once_in(4) {
+        let near = random.once_in(3);
+        [to.left, to.right] = tables(random, settings.w as usize, to.widest_gap, near);
+    }
+    to
+}
+
+/// Makes a number or a table's entry of a seat wrong: 3, 4 or 20.
+pub fn spoil_seat(random: &mut Random, to: &mut Settings) {
+    match random.between(0, 6) {
+        0 => to.left[random.pick(&[0, 1, 127, 254, 255])] = random.pick(&[1024, 1025, 32768, 65535]),
+        1 => to.right[random.pick(&[0, 1, 127, 254, 255])] = random.pick(&[1024, 1025, 32768, 65535]),
+        2 => to.share = random.pick(&[65, 66, 128, 255]),
+        3 | 4 => to.widest_gap = random.pick(&[0, 1, 2, 3, 65, 66, 68, 128, 255]),
+        _ => to.torn_distance = random.pick(&[4, 5, 8, 128, 254, 255]),
+    }
+}
+
+/// What a MOVE of a session is passed, besides its textures and planes.
+#[derive(Clone, PartialEq)]
+pub struct Move {
+    pub settings: Settings,
+    pub to: Settings,
+    pub reference: Vec<u16>,
+    pub journal: Guarded<u32>,
+}
+
+impl Move {
+    /// The same with one thing or several made wrong, so that it has a number, any that MOVE has.
+    pub fn refused(mut self, random: &mut Random) -> Move {
+        let area = self.reference.len();
+        for _ in 0..random.pick(&[1, 1, 2, 3]) {
+            match random.between(0, 9) {
+                0 => self.settings.w = random.pick(&[0, 4097, u32::MAX]),
+                1 => self.settings.h = random.pick(&[0, 4097, u32::MAX]),
+                2 | 3 => self.reference.resize(random.pick(&[0, area - 1, area + 1, 2 * area]), 0),
+                4 => self.journal = Guarded::new(&[], 7),
+                5 | 6 if !self.reference.is_empty() => {
+                    let at = random.between(0, self.reference.len() - 1);
+                    self.reference[at] = random.high();
+                }
+                _ => spoil_seat(random, &mut self.to),
+            }
+        }
+        self
+    }
 }
 
 /// A plane of numbers from 0 to `most`, which is one below a power of two: noise, few levels, a slope, or rectangles on a
@@ -429,20 +505,19 @@ pub struct Scene {
 }
 
 impl Scene {
-    /// A scene with this share and tolerance: one in three has thin near things before a ground, one in five has pictures of
-    /// eight bits.
-    pub fn new(random: &mut Random, share: u8, tolerance: u8) -> Scene {
+    /// A scene whose share, tolerance and numbers of gaps are those of a turn: one in three has thin near things before a ground,
+    /// one in five has pictures of eight bits.
+    pub fn new(random: &mut Random, turn: u64) -> Scene {
         let (w, h) = size(random);
-        Scene::sized(random, w, h, share, tolerance)
+        Scene::sized(random, w, h, turn)
     }
 
-    pub fn sized(random: &mut Random, w: usize, h: usize, share: u8, tolerance: u8) -> Scene {
+    pub fn sized(random: &mut Random, w: usize, h: usize, turn: u64) -> Scene {
         let near = random.once_in(3);
-        let table = |random: &mut Random| if near { near_table(random, w) } else { table(random, w) };
-        let left = table(random);
-        let right = if random.once_in(2) { left } else { table(random) };
+        let [share, tolerance, widest_gap, torn_distance] = in_turn(turn);
+        let [left, right] = tables(random, w, widest_gap, near);
         let total = random.next();
-        let settings = Settings { w: w as u32, h: h as u32, left, right, share, tolerance, total };
+        let settings = Settings { w: w as u32, h: h as u32, left, right, share, tolerance, widest_gap, torn_distance, total };
         let white = if random.once_in(5) { 255 } else { 1023 };
         let textures = [texture(random, w, h, white), texture(random, w, h, white)];
         let reference = if random.once_in(3) { textures[0].clone() } else { texture(random, w, h, white) };
@@ -454,8 +529,23 @@ impl Scene {
         Pictures { textures: [&self.textures[0], &self.textures[1]], reference: &self.reference }
     }
 
+    /// The pictures with another reference.
+    pub fn pictures_with<'a>(&'a self, reference: &'a [u16]) -> Pictures<'a> {
+        Pictures { reference, ..self.pictures() }
+    }
+
     pub fn depths(&self) -> [&[u8]; 2] {
         [&self.depths[0], &self.depths[1]]
+    }
+
+    /// A reference to move to: a texture, the scene's own, or any picture.
+    pub fn any_reference(&self, random: &mut Random) -> Vec<u16> {
+        let (w, h) = (self.settings.w as usize, self.settings.h as usize);
+        match random.between(0, 5) {
+            v @ 0..=1 => self.textures[v].clone(),
+            2 => self.reference.clone(),
+            _ => texture(random, w, h, 1023),
+        }
     }
 }
 

@@ -20,6 +20,7 @@ returns c =
       taken = λ z. absurd (shut (number ∙ z));
       last = λ z. absurd (shut (number ∙ z));
       usual = λ z. absurd (shut (number ∙ z));
+      stands = λ z. absurd (shut (number ∙ z));
       undone = λ z. absurd (shut (number ∙ z));
       nothing = λ z. absurd (shut (number ∙ z));
       same = λ z. absurd (shut (number ∙ z));

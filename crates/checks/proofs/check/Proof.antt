@@ -12,7 +12,7 @@ returns c =
 walk-requires : tie.Need-walk-requires
 walk-requires c κs =
     let t = c .before .before .before .before .before .before in
-    (c .before .before .before .before .before .squares .ensures, accepted (c .before .before .before .before .before .before .before .before .before .before .before .before .before .before .before .before .before .before .before .before .before .before .before .before .before .args .settings) _ _ _ (sym (t .before .before .common .ensures) ∙ sym (t .before .number .ensures) ∙ t .if1 .left))
+    (c .before .before .before .before .before .squares .ensures, accepted (c .before .before .before .before .before .before .before .before .before .before .before .before .before .before .before .before .before .before .before .before .before .before .before .before .before .before .args .settings) _ _ _ (sym (t .before .before .common .ensures) ∙ sym (t .before .number .ensures) ∙ t .if1 .left))
 
 returns-2 : tie.Need-returns-2
 returns-2 c =

@@ -28,7 +28,7 @@ draw-plane-row-requires c κs =
     )
 
 returns : tie.Need-returns
-returns c = c .before .draw-plane-row .ensures .drawn ∙ drawn-part _ _ _ _ _ _
+returns c = c .before .draw-plane-row .ensures .drawn ∙ drawn-part _ _ _ _ _ _ _
 
 pub draw-front-spec : {M : Type 1} → statement M
 draw-front-spec =

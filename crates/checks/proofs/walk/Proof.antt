@@ -18,21 +18,21 @@ use Rattle.checks.proofs.walk.Statement.{statement}
 use Rattle.checks.proofs.walk.Tie as tie
 
 abbrev Inv-loop : tie.InvT-loop
-Inv-loop w h leftTable rightTable share tolerance squares left right reference leftDepths rightDepths leftSamples leftFronts leftLimits leftMarks rightSamples rightFronts rightLimits rightMarks combined samples0 fronts0 limits0 marks0 samples1 fronts1 limits1 marks1 place₀ sum₀ y x₀ place sum x =
-    (x ≤ w) × ((place ≡ None) × Passed (settingsOf w h leftTable rightTable share tolerance) (pictures left right reference) (depths leftDepths rightDepths)
+Inv-loop w h leftTable rightTable share tolerance tear squares left right reference leftDepths rightDepths leftSamples leftFronts leftLimits leftMarks rightSamples rightFronts rightLimits rightMarks combined samples0 fronts0 limits0 marks0 samples1 fronts1 limits1 marks1 place₀ sum₀ y x₀ place sum x =
+    (x ≤ w) × ((place ≡ None) × Passed (settingsOf w h leftTable rightTable share tolerance tear) (pictures left right reference) (depths leftDepths rightDepths)
     (held (view leftSamples leftFronts leftLimits leftMarks) (view rightSamples rightFronts rightLimits rightMarks) combined) y x sum)
 
 abbrev μ-loop : tie.MeasureT-loop
-μ-loop w h leftTable rightTable share tolerance squares left right reference leftDepths rightDepths leftSamples leftFronts leftLimits leftMarks rightSamples rightFronts rightLimits rightMarks combined samples0 fronts0 limits0 marks0 samples1 fronts1 limits1 marks1 place₀ sum₀ y x₀ place sum x =
+μ-loop w h leftTable rightTable share tolerance tear squares left right reference leftDepths rightDepths leftSamples leftFronts leftLimits leftMarks rightSamples rightFronts rightLimits rightMarks combined samples0 fronts0 limits0 marks0 samples1 fronts1 limits1 marks1 place₀ sum₀ y x₀ place sum x =
     w - x
 
 abbrev Inv-rows : tie.InvT-rows
-Inv-rows w h leftTable rightTable share tolerance squares left right reference leftDepths rightDepths leftSamples leftFronts leftLimits leftMarks rightSamples rightFronts rightLimits rightMarks combined samples0₀ fronts0₀ limits0₀ marks0₀ samples1₀ fronts1₀ limits1₀ marks1₀ place₀ sum₀ y₀ samples0 fronts0 limits0 marks0 samples1 fronts1 limits1 marks1 place sum y =
-    (y ≤ h) × ((place ≡ None) × Passed (settingsOf w h leftTable rightTable share tolerance) (pictures left right reference) (depths leftDepths rightDepths)
+Inv-rows w h leftTable rightTable share tolerance tear squares left right reference leftDepths rightDepths leftSamples leftFronts leftLimits leftMarks rightSamples rightFronts rightLimits rightMarks combined samples0₀ fronts0₀ limits0₀ marks0₀ samples1₀ fronts1₀ limits1₀ marks1₀ place₀ sum₀ y₀ samples0 fronts0 limits0 marks0 samples1 fronts1 limits1 marks1 place sum y =
+    (y ≤ h) × ((place ≡ None) × Passed (settingsOf w h leftTable rightTable share tolerance tear) (pictures left right reference) (depths leftDepths rightDepths)
     (held (view leftSamples leftFronts leftLimits leftMarks) (view rightSamples rightFronts rightLimits rightMarks) combined) y 0 sum)
 
 abbrev μ-rows : tie.MeasureT-rows
-μ-rows w h leftTable rightTable share tolerance squares left right reference leftDepths rightDepths leftSamples leftFronts leftLimits leftMarks rightSamples rightFronts rightLimits rightMarks combined samples0₀ fronts0₀ limits0₀ marks0₀ samples1₀ fronts1₀ limits1₀ marks1₀ place₀ sum₀ y₀ samples0 fronts0 limits0 marks0 samples1 fronts1 limits1 marks1 place sum y =
+μ-rows w h leftTable rightTable share tolerance tear squares left right reference leftDepths rightDepths leftSamples leftFronts leftLimits leftMarks rightSamples rightFronts rightLimits rightMarks combined samples0₀ fronts0₀ limits0₀ marks0₀ samples1₀ fronts1₀ limits1₀ marks1₀ place₀ sum₀ y₀ samples0 fronts0 limits0 marks0 samples1 fronts1 limits1 marks1 place sum y =
     h - y
 
 -- ---- where the walk stands: the entry, a row, a column, a comparison
@@ -61,7 +61,7 @@ column-of c = c .before .before .before .before .before .before .before .before 
 -- ---- what the call is lent
 
 abbrev settings-of : Start → Settings
-settings-of c = let a = c .args in settingsOf (a .w) (a .h) (a .leftTable .now) (a .rightTable .now) (a .share) (a .tolerance)
+settings-of c = let a = c .args in settingsOf (a .w) (a .h) (a .leftTable .now) (a .rightTable .now) (a .share) (a .tolerance) (a .tear)
 
 abbrev pictures-of : Start → Pictures
 pictures-of c = let a = c .args in pictures (a .left .now) (a .right .now) (a .reference .now)
@@ -131,11 +131,11 @@ same-at-requires c κs =
     let e = entry-in l in
     (e .left, (e .right, (e .combined, (l .loop-test .taken, common (start-of (row-of l)) .size .w .most))))
 
-cast-t61 : tie.Need-cast-t61 Inv-loop μ-loop Inv-rows μ-rows
-cast-t61 c = omega (arith, entry-in (column-of (c .before)) .low)
-
 cast-t62 : tie.Need-cast-t62 Inv-loop μ-loop Inv-rows μ-rows
-cast-t62 c = omega (arith, entry-in (column-of (c .before)) .near)
+cast-t62 c = omega (arith, entry-in (column-of (c .before)) .low)
+
+cast-t63 : tie.Need-cast-t63 Inv-loop μ-loop Inv-rows μ-rows
+cast-t63 c = omega (arith, entry-in (column-of (c .before)) .near)
 
 mul-sample-in : tie.Need-mul-sample-in Inv-loop μ-loop Inv-rows μ-rows
 mul-sample-in c = omega (arith, entry-in (column-of (c .before)) .few)
@@ -238,8 +238,8 @@ walk-spec =
     loop-holds
     shown-at-requires
     same-at-requires
-    cast-t61
     cast-t62
+    cast-t63
     mul-sample-in
     add-sample-in
     sample-in-requires

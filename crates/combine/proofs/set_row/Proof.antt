@@ -15,7 +15,7 @@ combine-row-requires : tie.Need-combine-row-requires
 combine-row-requires c κs =
     let s = c .before .before .before .before .before .before .before .before .before .before .before .before .before .before .before .before .before .before .before .before .before .before .before .before .before .before .before .before .before in
     let cr = c .before .before .before .before .before .before .before .before .before .before .before .before .before .commit-row in
-    let own = view-kept (cr .last .1 .1 .1 .1 .1 .1 .1 .1 .0) (cr .last .1 .1 .1 .1 .1 .1 .1 .1 .1 .0) (cr .last .1 .1 .1 .1 .1 .1 .1 .1 .1 .1 .1 .0) (s .pre .1 .0) (cr .kept .1 .1 .1 .1 .1 .1 .1 .1 .0) (cr .kept .1 .1 .1 .1 .1 .1 .1 .1 .1 .0) (cr .kept .1 .1 .1 .1 .1 .1 .1 .1 .1 .1 .1 .0) in
+    let own = view-kept (cr .last .1 .1 .1 .1 .1 .1 .1 .1 .1 .0) (cr .last .1 .1 .1 .1 .1 .1 .1 .1 .1 .1 .0) (cr .last .1 .1 .1 .1 .1 .1 .1 .1 .1 .1 .1 .1 .0) (s .pre .1 .0) (cr .kept .1 .1 .1 .1 .1 .1 .1 .1 .1 .0) (cr .kept .1 .1 .1 .1 .1 .1 .1 .1 .1 .1 .0) (cr .kept .1 .1 .1 .1 .1 .1 .1 .1 .1 .1 .1 .1 .0) in
     ((s .pre .0 .1 .0, (s .pre .0 .1 .1, (cr .ensures .order, cr .ensures .within))), ((own, s .pre .1 .1 .0 .0), s .pre .1 .1 .0 .1))
 
 returns : tie.Need-returns
@@ -23,8 +23,8 @@ returns c =
     let s = c .before .before .before .before .before .before .before .before .before .before .before .before .before .before .before .before .before .before .before .before .before .before .before .before .before .before .before .before .before .before .before .before in
     let a = s .args in
     let cr = c .before .before .before .before .before .before .before .before .before .before .before .before .before .before .before .before .commit-row in
-    row-set (a .right) (now (a .table)) (a .share) (a .tolerance) (a .w) (a .y) (a .column) (cr .result .from) (cr .result .to) (now (a .texture)) (now (a .candidate)) (now (a .samples2)) (now (a .fronts2)) (now (a .marks2)) (now (a .depths)) (cr .last .1 .1 .1 .1 .1 .1 .1 .0)
-    (view (now (a .samples)) (now (a .fronts)) (now (a .limits)) (now (a .marks))) (view (cr .last .1 .1 .1 .1 .1 .1 .1 .1 .0) (cr .last .1 .1 .1 .1 .1 .1 .1 .1 .1 .0) (cr .last .1 .1 .1 .1 .1 .1 .1 .1 .1 .1 .0) (cr .last .1 .1 .1 .1 .1 .1 .1 .1 .1 .1 .1 .0))
+    row-set (a .tear) (a .right) (now (a .table)) (a .share) (a .tolerance) (a .w) (a .y) (a .column) (cr .result .from) (cr .result .to) (now (a .texture)) (now (a .candidate)) (now (a .samples2)) (now (a .fronts2)) (now (a .marks2)) (now (a .depths)) (cr .last .1 .1 .1 .1 .1 .1 .1 .1 .0)
+    (view (now (a .samples)) (now (a .fronts)) (now (a .limits)) (now (a .marks))) (view (cr .last .1 .1 .1 .1 .1 .1 .1 .1 .1 .0) (cr .last .1 .1 .1 .1 .1 .1 .1 .1 .1 .1 .0) (cr .last .1 .1 .1 .1 .1 .1 .1 .1 .1 .1 .1 .0) (cr .last .1 .1 .1 .1 .1 .1 .1 .1 .1 .1 .1 .1 .0))
     (now (a .combined)) (c .before .before .combine-row .last .1 .1 .1 .1 .1 .1 .1 .1 .1 .1 .1 .1 .1 .0) (s .pre .0 .1 .0) (s .pre .1 .1 .0 .1) (cr .ensures) (c .before .before .combine-row .ensures)
 
 pub set-row-spec : {M : Type 1} → statement M

@@ -15,13 +15,13 @@ use Rattle.combine.proofs.set_rows.Statement.{statement}
 use Rattle.combine.proofs.set_rows.Tie as tie
 
 abbrev Inv-loop : tie.InvT-loop
-Inv-loop right table share tolerance w h column row width height texture candidate bytes room₀ depths₀ samples₀ fronts₀ limits₀ marks₀ samples2 fronts2 marks2 combined₀ j₀ room depths samples fronts limits marks combined j =
-    (Through right table share tolerance w h (blockOf column row width height) j texture (filled (blockOf column row width height) candidate bytes) samples2 fronts2 marks2 depths₀ depths
+Inv-loop tear right table share tolerance w h column row width height texture candidate bytes room₀ depths₀ samples₀ fronts₀ limits₀ marks₀ samples2 fronts2 marks2 combined₀ j₀ room depths samples fronts limits marks combined j =
+    (Through tear right table share tolerance w h (blockOf column row width height) j texture (filled (blockOf column row width height) candidate bytes) samples2 fronts2 marks2 depths₀ depths
     (view samples₀ fronts₀ limits₀ marks₀) (view samples fronts limits marks) combined₀ combined)
     × ((length room ≡ roomOf candidate width) × (Started candidate room))
 
 abbrev μ-loop : tie.MeasureT-loop
-μ-loop right table share tolerance w h column row width height texture candidate bytes room₀ depths₀ samples₀ fronts₀ limits₀ marks₀ samples2 fronts2 marks2 combined₀ j₀ room depths samples fronts limits marks combined j =
+μ-loop tear right table share tolerance w h column row width height texture candidate bytes room₀ depths₀ samples₀ fronts₀ limits₀ marks₀ samples2 fronts2 marks2 combined₀ j₀ room depths samples fronts limits marks combined j =
     height - j
 
 start-requires : tie.Need-start-requires Inv-loop μ-loop
@@ -80,8 +80,8 @@ loop-again c =
     let less = c .before .before .before .before .before .before .before .before .before .before .before .before .before .before .before .before .before .before .before .before .before .before .before .before .loop-test .taken in
     let e = c .before .before .before .before .before .before .before .before .before .before .before .before .before .before .before .before .before .before .row-of .ensures ∙ row-chosen (blockOf (a .column) (a .row) (a .width) (a .height)) (a .candidate) (now (a .bytes)) (l .j) less (l .inv .1 .0) (f .ensures) in (
       through-next (l .inv .0) (s .pre .1 .1 .1 .0) (s .pre .1 .0 .depths) less (rw e at (r .ensures))
-          (resized (l .inv .0 .size) (r .kept .1 .1 .1 .1 .1 .1 .1 .1 .1 .0) (r .kept .1 .1 .1 .1 .1 .1 .1 .1 .1 .1 .0) (r .kept .1 .1 .1 .1 .1 .1 .1 .1 .1 .1 .1 .0) (r .kept .1 .1 .1 .1 .1 .1 .1 .1 .1 .1 .1 .1 .0) (r .kept .1 .1 .1 .1 .1 .1 .1 .1 .1 .1 .1 .1 .1 .0))
-          (other-resized (l .inv .0 .other) (r .kept .1 .1 .1 .1 .1 .1 .1 .1 .1 .1 .1 .1 .1 .1 .1 .1 .1 .0)),
+          (resized (l .inv .0 .size) (r .kept .1 .1 .1 .1 .1 .1 .1 .1 .1 .1 .0) (r .kept .1 .1 .1 .1 .1 .1 .1 .1 .1 .1 .1 .0) (r .kept .1 .1 .1 .1 .1 .1 .1 .1 .1 .1 .1 .1 .0) (r .kept .1 .1 .1 .1 .1 .1 .1 .1 .1 .1 .1 .1 .1 .0) (r .kept .1 .1 .1 .1 .1 .1 .1 .1 .1 .1 .1 .1 .1 .1 .0))
+          (other-resized (l .inv .0 .other) (r .kept .1 .1 .1 .1 .1 .1 .1 .1 .1 .1 .1 .1 .1 .1 .1 .1 .1 .1 .0)),
       (f .ensures .size ∙ l .inv .1 .0, f .ensures .started),
     )
 

@@ -43,8 +43,8 @@ returns c =
     let a = s .args in
     let ch = c .before .before .before .before .before .before .before .before .before .before .before .before .before .before .before .change-row in
     let rd = c .before .before .before .before .before .before .redraw-row in
-    row-commits (a .right) (now (a .table)) (now (a .texture)) (a .w) (a .y) (a .column) (ch .result .columns) (ch .result .low) (ch .result .edge) _ _ (now (a .candidate)) (now (a .depths)) (ch .last .1 .1 .1 .1 .1 .1 .0)
-    (view (now (a .samples)) (now (a .fronts)) (now (a .limits)) (now (a .marks))) (view (rd .last .1 .1 .1 .1 .1 .1 .1 .1 .1 .0) (rd .last .1 .1 .1 .1 .1 .1 .1 .1 .1 .1 .0) (ch .last .1 .1 .1 .1 .1 .1 .1 .0) (rd .last .1 .1 .1 .1 .1 .1 .1 .1 .1 .1 .1 .0))
+    row-commits (a .tear) (a .right) (now (a .table)) (now (a .texture)) (a .w) (a .y) (a .column) (ch .result .columns) (ch .result .low) (ch .result .edge) _ _ (now (a .candidate)) (now (a .depths)) (ch .last .1 .1 .1 .1 .1 .1 .0)
+    (view (now (a .samples)) (now (a .fronts)) (now (a .limits)) (now (a .marks))) (view (rd .last .1 .1 .1 .1 .1 .1 .1 .1 .1 .1 .0) (rd .last .1 .1 .1 .1 .1 .1 .1 .1 .1 .1 .1 .0) (ch .last .1 .1 .1 .1 .1 .1 .1 .0) (rd .last .1 .1 .1 .1 .1 .1 .1 .1 .1 .1 .1 .1 .0))
     (s .pre .0 .0) (s .pre .1 .0) (s .pre .0 .1) (s .pre .1 .1 .0) (s .pre .1 .1 .1) (ch .kept .1 .1 .1 .1 .1 .1 .1 .0) (ch .ensures) (rd .ensures)
 
 pub commit-row-spec : {M : Type 1} → statement M

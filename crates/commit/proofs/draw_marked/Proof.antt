@@ -21,9 +21,9 @@ put-marks-requires c κs =
     let a = s .args in
     let p = s .pre .0 in
     let dp = c .before .before .before .before .before .before .before .before .draw-part in
-    let nm = dp .kept .1 .1 .1 .1 .1 .1 .1 .1 .1 .0 ∙ s .pre .1 in (
+    let nm = dp .kept .1 .1 .1 .1 .1 .1 .1 .1 .1 .1 .0 ∙ s .pre .1 in (
       (rw nm (p .marks), rw nm (p .most)),
-      part-flags (a .right) (line (now (a .table)) (seen (a .right) (now (a .texture))) (seen (a .right) (now (a .depths)))) (a .columns) (a .edge) (a .start) (length (now (a .samples))) (dp .last .1 .1 .1 .1 .1 .1 .1 .1 .1 .0) nm (dp .ensures .marks),
+      part-flags (a .right) (line (a .tear) (now (a .table)) (seen (a .right) (now (a .texture))) (seen (a .right) (now (a .depths)))) (a .columns) (a .edge) (a .start) (length (now (a .samples))) (dp .last .1 .1 .1 .1 .1 .1 .1 .1 .1 .1 .0) nm (dp .ensures .marks),
     )
 
 returns : tie.Need-returns
@@ -31,8 +31,8 @@ returns c =
     let s = c .before .before .before .before .before .before .before .before .before .before .before .before .before .before .before .before .before .before .before .before .before in
     let a = s .args in
     let dp = c .before .before .before .before .before .before .before .before .before .before .before .draw-part in
-    part-drawn (a .right) (line (now (a .table)) (seen (a .right) (now (a .texture))) (seen (a .right) (now (a .depths)))) (a .columns) (a .edge) (a .start) (length (now (a .samples))) (a .at) (now (a .marks)) (dp .last .1 .1 .1 .1 .1 .1 .1 .0) (dp .last .1 .1 .1 .1 .1 .1 .1 .1 .0) (dp .last .1 .1 .1 .1 .1 .1 .1 .1 .1 .0) _
-    (dp .kept .1 .1 .1 .1 .1 .1 .1 .0) (dp .kept .1 .1 .1 .1 .1 .1 .1 .1 .0 ∙ s .pre .0 .fronts) (dp .kept .1 .1 .1 .1 .1 .1 .1 .1 .1 .0 ∙ s .pre .1) (dp .ensures) (c .before .before .put-marks .ensures)
+    part-drawn (a .right) (line (a .tear) (now (a .table)) (seen (a .right) (now (a .texture))) (seen (a .right) (now (a .depths)))) (a .columns) (a .edge) (a .start) (length (now (a .samples))) (a .at) (now (a .marks)) (dp .last .1 .1 .1 .1 .1 .1 .1 .1 .0) (dp .last .1 .1 .1 .1 .1 .1 .1 .1 .1 .0) (dp .last .1 .1 .1 .1 .1 .1 .1 .1 .1 .1 .0) _
+    (dp .kept .1 .1 .1 .1 .1 .1 .1 .1 .0) (dp .kept .1 .1 .1 .1 .1 .1 .1 .1 .1 .0 ∙ s .pre .0 .fronts) (dp .kept .1 .1 .1 .1 .1 .1 .1 .1 .1 .1 .0 ∙ s .pre .1) (dp .ensures) (c .before .before .put-marks .ensures)
 
 pub draw-marked-spec : {M : Type 1} → statement M
 draw-marked-spec =

@@ -22,7 +22,7 @@ returns c =
     let w = length (now (a .depths)) in
     let st = c .before .before .first-at in
     let en = c .before .first-at2 in
-    redrawn-none (a .right) (line (now (a .table)) (seen (a .right) (now (a .texture))) (seen (a .right) (now (a .depths)))) (a .columns) (a .low) (a .edge) (st .result) (en .result) (st .ensures) (en .ensures) w (a .y) (now (a .samples)) (now (a .fronts)) (now (a .marks)) (c .if1 .taken)
+    redrawn-none (a .right) (line (a .tear) (now (a .table)) (seen (a .right) (now (a .texture))) (seen (a .right) (now (a .depths)))) (a .columns) (a .low) (a .edge) (st .result) (en .result) (st .ensures) (en .ensures) w (a .y) (now (a .samples)) (now (a .fronts)) (now (a .marks)) (c .if1 .taken)
 
 part-start-requires : tie.Need-part-start-requires
 part-start-requires c κs =
@@ -45,7 +45,7 @@ draw-stretch-requires c κs =
     let ls = part-length (now (a .samples)) (a .y * w + p .result) (en .result - st .result) (omega (arith, p .ensures .1, s .pre .1 .1 .0)) in
     let lf = part-length (now (a .fronts)) (a .y * w + p .result) (en .result - st .result) (omega (arith, p .ensures .1, s .pre .1 .1 .1 .0)) in
     record {
-      ready = rw (seen-seen (a .right) (now (a .texture)), seen-seen (a .right) (now (a .depths))) at (ready-seen (a .right) (now (a .table)) (seen (a .right) (now (a .texture))) (seen (a .right) (now (a .depths))) (s .pre .0));
+      ready = rw (seen-seen (a .right) (now (a .texture)), seen-seen (a .right) (now (a .depths))) at (ready-seen (a .tear) (a .right) (now (a .table)) (seen (a .right) (now (a .texture))) (seen (a .right) (now (a .depths))) (s .pre .0));
       some = s .pre .1 .0 .0;
       columns = rw ld at (s .pre .1 .0 .1 .0);
       edged = s .pre .1 .0 .1 .1;
@@ -54,6 +54,13 @@ draw-stretch-requires c κs =
       marks = rw ls (omega (arith, p .ensures .1, s .pre .1 .1 .1 .1));
       most = rw ls (omega (arith, p .ensures .1, ld, s .pre .0 .most));
     }
+
+add-t21 : tie.Need-add-t21
+add-t21 c =
+    let s = c .before .before .before .before .before .before .before .before .before .before .before .before .before .before .before .before .before .before .before in
+    let p = c .before .before .before .before .before .before .before .before .before .before .part-start in
+    let ld = length-seen (s .args .right) (now (s .args .depths)) in
+    omega (arith, p .ensures .1, ld, s .pre .0 .most)
 
 returns-2 : tie.Need-returns-2
 returns-2 c =
@@ -64,7 +71,7 @@ returns-2 c =
     let en = c .before .before .before .before .before .before .before .before .before .before .before .before .first-at2 in
     let p = c .before .before .before .before .before .before .before .before .before .before .part-start in
     let ds = c .before .before .before .before .before .before .draw-stretch in
-    redrawn-some (a .right) (line (now (a .table)) (seen (a .right) (now (a .texture))) (seen (a .right) (now (a .depths)))) (a .columns) (a .low) (a .edge) (st .result) (en .result) (st .ensures) (en .ensures) w (a .y) (now (a .samples)) (now (a .fronts)) (now (a .marks)) (p .result) _ (ds .last .1 .1 .1 .1 .1 .1 .1 .1 .0) (ds .last .1 .1 .1 .1 .1 .1 .1 .1 .1 .0)
+    redrawn-some (a .right) (line (a .tear) (now (a .table)) (seen (a .right) (now (a .texture))) (seen (a .right) (now (a .depths)))) (a .columns) (a .low) (a .edge) (st .result) (en .result) (st .ensures) (en .ensures) w (a .y) (now (a .samples)) (now (a .fronts)) (now (a .marks)) (p .result) _ (ds .last .1 .1 .1 .1 .1 .1 .1 .1 .1 .0) (ds .last .1 .1 .1 .1 .1 .1 .1 .1 .1 .1 .0)
     (part-length (now (a .samples)) (a .y * w + p .result) (en .result - st .result) (omega (arith, p .ensures .1, s .pre .1 .1 .0))) (p .ensures .0) (p .ensures .1) (ds .ensures)
 
 pub redraw-spec : {M : Type 1} → statement M
@@ -87,7 +94,7 @@ redraw-spec =
     (λ c. search needs)
     (λ c. search needs)
     draw-stretch-requires
-    (λ c. search needs)
+    add-t21
     (λ c. search needs)
     (λ c. search needs)
     (λ c. search needs)

@@ -21,7 +21,7 @@ redraw-requires c κs =
     let lt = part-length (now (a .texture)) (a .y * a .w) (a .w) (s .pre .1 .1 .0 .0) in
     let ld = part-length (now (a .depths)) (a .y * a .w) (a .w) (s .pre .1 .1 .0 .1) in
     let lm = part-length (now (a .marks)) (a .y * markBytes (a .w)) (markBytes (a .w)) (s .pre .1 .1 .1 .1 .1) in (
-      ready-seen (a .right) (now (a .table)) _ _ (record { table = s .pre .0 .0; texture = lt ∙ sym ld; some = rw ld (s .pre .0 .1 .0); most = rw ld (s .pre .0 .1 .1) }),
+      ready-seen (a .tear) (a .right) (now (a .table)) _ _ (record { table = s .pre .0 .0; texture = lt ∙ sym ld; some = rw ld (s .pre .0 .1 .0); most = rw ld (s .pre .0 .1 .1) }),
       (
         (s .pre .1 .0 .0, (rw (length-seen (a .right) (take (a .y * a .w + a .w - a .y * a .w) (drop (a .y * a .w) (now (a .depths)))), ld) (s .pre .1 .0 .1 .0), rw ed (s .pre .1 .0 .1 .1))),
         (rw ld (s .pre .1 .1 .1 .0), (rw ld (s .pre .1 .1 .1 .1 .0), rw ld lm)),
@@ -33,10 +33,10 @@ returns c =
     let s = c .before .before .before .before .before .before .before .before .before .before .before .before .before .before .before .before .before in
     let a = s .args in
     let rd = c .before .before .before .before .before .before .redraw in
-    redrawn-row (a .right) (a .w) (a .y) (a .columns) (a .low) (a .edge) _ _ (now (a .table)) (now (a .texture)) (now (a .depths)) (now (a .samples)) (now (a .fronts)) (now (a .marks)) _ _ (rd .last .1 .1 .1 .1 .1 .1 .1 .1 .1 .1 .0)
+    redrawn-row (a .tear) (a .right) (a .w) (a .y) (a .columns) (a .low) (a .edge) _ _ (now (a .table)) (now (a .texture)) (now (a .depths)) (now (a .samples)) (now (a .fronts)) (now (a .marks)) _ _ (rd .last .1 .1 .1 .1 .1 .1 .1 .1 .1 .1 .1 .0)
     (part-row (now (a .texture)) (a .w) (a .y)) (part-row (now (a .depths)) (a .w) (a .y)) (part-row (now (a .marks)) (markBytes (a .w)) (a .y))
     (part-length (now (a .depths)) (a .y * a .w) (a .w) (s .pre .1 .1 .0 .1)) (s .pre .1 .1 .1 .1 .1)
-    (rd .kept .1 .1 .1 .1 .1 .1 .1 .1 .1 .1 .0 ∙ part-length (now (a .marks)) (a .y * markBytes (a .w)) (markBytes (a .w)) (s .pre .1 .1 .1 .1 .1)) (rd .ensures)
+    (rd .kept .1 .1 .1 .1 .1 .1 .1 .1 .1 .1 .1 .0 ∙ part-length (now (a .marks)) (a .y * markBytes (a .w)) (markBytes (a .w)) (s .pre .1 .1 .1 .1 .1)) (rd .ensures)
 
 pub redraw-row-spec : {M : Type 1} → statement M
 redraw-row-spec =

@@ -4,7 +4,7 @@ use lib.ListN.{length}
 use Rattle.model.specs.declared.Settings.{Settings}
 use Rattle.model.specs.Planes.{Pictures, Depths, Held, pictures, depths}
 use Rattle.model.specs.Refusals.{numberOf, earlyNumber}
-use Rattle.validate.proofs.Numbers.{early-number}
+use Rattle.validate.proofs.Numbers.{steps-number, early-number}
 use Rattle.decide.specs.Decided.{settingsOf, heldOf}
 use Rattle.decide.proofs.Ways.{passed, tried-total, decided-early, decided-late}
 use borrow.Author.Needs.{needs}
@@ -14,7 +14,7 @@ use Rattle.decide.proofs.decide.Tie as tie
 -- what the call is lent, with any total in the settings
 abbrev settings : tie.Start → ℕ → Settings
 settings c total =
-    let a = c .args in settingsOf (a .w) (a .h) (a .leftTable .now) (a .rightTable .now) (a .share) (a .tolerance) total
+    let a = c .args in settingsOf (a .w) (a .h) (a .leftTable .now) (a .rightTable .now) (a .share) (a .tolerance) (a .tear) total
 
 abbrev shown : tie.Start → Pictures
 shown c = let a = c .args in pictures (a .left .now) (a .right .now) (a .reference .now)
@@ -29,13 +29,15 @@ kept c =
     (a .rightLimits .now) (a .rightMarks .now) (a .combined .now)
 
 abbrev start : tie.After-with-candidate → tie.Start
-start c = c .before .before .before .before .before .before .before .before .before .before .before .before .before .before .before
+start c = c .before .before .before .before .before .before .before .before .before .before .before .before .before .before .before .before
 
 -- the early refusal that was found
 found : (c : tie.After-with-candidate) (total : ℕ) → numberOf (c .with-candidate .result) ≡ earlyNumber (settings (start c) total) (shown (start c)) (lent (start c)) (kept (start c)) (start c .args .view) (start c .args .block) (start c .args .candidate) (length (start c .args .bytes .now))
 found c total =
-    early-number (settings (start c) total) (shown (start c)) (lent (start c)) (kept (start c)) (start c .args .view) (start c .args .block) (start c .args .candidate) (length (start c .args .bytes .now)) _ _
-    (c .before .early .ensures) (c .with-candidate .ensures)
+    let a = start c .args in
+    steps-number (a .w) (a .h) (a .leftTable .now) (a .rightTable .now) (a .share) (a .tear) _ (a .view) (a .block) (a .candidate) (length (a .bytes .now)) _ _ _
+    (c .before .before .common .ensures) (c .before .with-block .ensures) (c .with-candidate .ensures)
+    ∙ early-number (settings (start c) total) (shown (start c)) (lent (start c)) (kept (start c)) (a .view) (a .block) (a .candidate) (length (a .bytes .now))
 
 -- none was found
 none : (c : tie.Else1) (total : ℕ) → let a = start (c .before .before) in earlyNumber (settings a total) (shown a) (lent a) (kept a) (a .args .view) (a .args .block) (a .args .candidate) (length (a .args .bytes .now)) ≡ 0
@@ -69,6 +71,7 @@ pub decide-spec : {M : Type 1} → statement M
 decide-spec =
     tie.close
     (tie.spec
+    (λ c κs. search needs)
     (λ c κs. search needs)
     (λ c κs. search needs)
     (λ c κs. search needs)

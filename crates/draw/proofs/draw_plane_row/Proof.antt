@@ -18,7 +18,7 @@ draw-row-requires c κs =
     let h = start .pre in
     let p = h .1 .0 in
     let l = part-length (a .depths .now) (a .y * a .w) (a .w) (p .depths-in) in (
-      parts-ready (a .table .now) (a .w) (a .y) (a .texture .now) (a .depths .now) _ (h .0 .0) (h .0 .1 .0) (h .0 .1 .1) p,
+      parts-ready (a .tear) (a .table .now) (a .w) (a .y) (a .texture .now) (a .depths .now) _ (h .0 .0) (h .0 .1 .0) (h .0 .1 .1) p,
       (
         part-length (a .samples .now) (a .y * a .w) (a .w) (p .samples-in) ∙ sym l,
         (
@@ -49,7 +49,7 @@ pack-requires c κs =
     let a = start .args in
     let h = start .pre in
     let d = c .before .before .before .before .before .before .before .before .before .draw-row in
-    let l = d .kept .1 .1 .1 .1 .1 .1 .0 ∙ h .1 .1 in (
+    let l = d .kept .1 .1 .1 .1 .1 .1 .1 .0 ∙ h .1 .1 in (
       (rw l (part-length (a .marks .now) _ _ (h .1 .0 .marks-in)), rw l (h .0 .1 .1)),
       subst (λ (ms : List ℕ). Flags ms) (sym (d .ensures .shows .marks-are)) (flags-view (a .right) _),
     )
@@ -62,13 +62,13 @@ returns c =
     let p = h .1 .0 in
     let d = c .before .before .before .before .before .before .before .before .before .before .before .before .draw-row in
     let k = c .before .before .pack in
-    let lf = d .kept .1 .1 .1 .1 .1 .1 .0 ∙ h .1 .1 in
-    row-drawn (a .right) (a .table .now) (a .w) (a .y) (a .texture .now) (a .depths .now) _ _ _ _ _ p
-    (d .kept .1 .1 .1 .1 .0 ∙ part-length (a .samples .now) (a .y * a .w) (a .w) (p .samples-in))
-    (d .kept .1 .1 .1 .1 .1 .0 ∙ part-length (a .fronts .now) (a .y * a .w) (a .w) (p .fronts-in))
-    (d .kept .1 .1 .1 .1 .1 .1 .1 .0 ∙ part-length (a .limits .now) (a .y * a .w) (a .w) (p .limits-in))
+    let lf = d .kept .1 .1 .1 .1 .1 .1 .1 .0 ∙ h .1 .1 in
+    row-drawn (a .tear) (a .right) (a .table .now) (a .w) (a .y) (a .texture .now) (a .depths .now) _ _ _ _ _ p
+    (d .kept .1 .1 .1 .1 .1 .0 ∙ part-length (a .samples .now) (a .y * a .w) (a .w) (p .samples-in))
+    (d .kept .1 .1 .1 .1 .1 .1 .0 ∙ part-length (a .fronts .now) (a .y * a .w) (a .w) (p .fronts-in))
+    (d .kept .1 .1 .1 .1 .1 .1 .1 .1 .0 ∙ part-length (a .limits .now) (a .y * a .w) (a .w) (p .limits-in))
     (k .kept .1 .0 ∙ part-length (a .marks .now) _ _ (p .marks-in))
-    (parts-drawn (a .right) (a .table .now) (a .w) (a .y) (a .texture .now) (a .depths .now) _ _ _ _ _ (d .ensures) lf (k .ensures))
+    (parts-drawn (a .tear) (a .right) (a .table .now) (a .w) (a .y) (a .texture .now) (a .depths .now) _ _ _ _ _ (d .ensures) lf (k .ensures))
 
 pub draw-plane-row-spec : {M : Type 1} → statement M
 draw-plane-row-spec =

@@ -11,16 +11,16 @@ use Rattle.draw.proofs.draw_view.Statement.{statement}
 use Rattle.draw.proofs.draw_view.Tie as tie
 
 abbrev Inv-loop : tie.InvT-loop
-Inv-loop right table w h texture depths samples₀ fronts₀ limits₀ marks₀ flags₀ y₀ samples fronts limits marks flags y =
-    (y ≤ h) × ((length flags ≡ 4096) × (Kept (view samples₀ fronts₀ limits₀ marks₀) (view samples fronts limits marks) × ViewDrawn right table w y texture depths (view samples fronts limits marks)))
+Inv-loop tear right table w h texture depths samples₀ fronts₀ limits₀ marks₀ flags₀ y₀ samples fronts limits marks flags y =
+    (y ≤ h) × ((length flags ≡ 4096) × (Kept (view samples₀ fronts₀ limits₀ marks₀) (view samples fronts limits marks) × ViewDrawn tear right table w y texture depths (view samples fronts limits marks)))
 
 abbrev μ-loop : tie.MeasureT-loop
-μ-loop right table w h texture depths samples₀ fronts₀ limits₀ marks₀ flags₀ y₀ samples fronts limits marks flags y = h - y
+μ-loop tear right table w h texture depths samples₀ fronts₀ limits₀ marks₀ flags₀ y₀ samples fronts limits marks flags y = h - y
 
 loop-holds : tie.Need-loop-holds Inv-loop μ-loop
 loop-holds c =
     let a = c .before .before .before .before .before .args in
-    (omega arith, (refl, (kept-all _, view-none (a .right) (a .table .now) (a .w) (a .texture .now) (a .depths .now) _)))
+    (omega arith, (refl, (kept-all _, view-none (a .tear) (a .right) (a .table .now) (a .w) (a .texture .now) (a .depths .now) _)))
 
 array-borrow-prefix-flags : tie.Need-array-borrow-prefix-flags Inv-loop μ-loop
 array-borrow-prefix-flags c = omega (arith, c .before .before .before .before .before .before .before .before .before .before .before .pre .0 .1 .1)
@@ -49,13 +49,13 @@ loop-again c =
     let k = l .inv .1 .1 .0 in (
       omega (arith, c .before .before .before .before .before .before .before .before .before .before .before .before .before .before .loop-test .taken),
       (
-        length-front (l .flags) (d .last .1 .1 .1 .1 .1 .1 .1 .1 .1 .1 .0) (start .args .w) (d .kept .1 .1 .1 .1 .1 .1 .1 .1 .1 .1 .0) ∙ l .inv .1 .0,
+        length-front (l .flags) (d .last .1 .1 .1 .1 .1 .1 .1 .1 .1 .1 .1 .0) (start .args .w) (d .kept .1 .1 .1 .1 .1 .1 .1 .1 .1 .1 .1 .0) ∙ l .inv .1 .0,
         (
           record {
-            samples = d .kept .1 .1 .1 .1 .1 .1 .0 ∙ k .samples;
-            fronts = d .kept .1 .1 .1 .1 .1 .1 .1 .0 ∙ k .fronts;
-            limits = d .kept .1 .1 .1 .1 .1 .1 .1 .1 .0 ∙ k .limits;
-            marks = d .kept .1 .1 .1 .1 .1 .1 .1 .1 .1 .0 ∙ k .marks;
+            samples = d .kept .1 .1 .1 .1 .1 .1 .1 .0 ∙ k .samples;
+            fronts = d .kept .1 .1 .1 .1 .1 .1 .1 .1 .0 ∙ k .fronts;
+            limits = d .kept .1 .1 .1 .1 .1 .1 .1 .1 .1 .0 ∙ k .limits;
+            marks = d .kept .1 .1 .1 .1 .1 .1 .1 .1 .1 .1 .0 ∙ k .marks;
           },
           view-next (l .inv .1 .1 .1) (d .ensures),
         ),

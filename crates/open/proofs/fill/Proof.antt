@@ -17,15 +17,15 @@ combine-picture-requires c κs =
       (c .before .before .before .before .before .before .before .before .squares .ensures, (h .0 .1 .1, h .1 .0 .1)),
       (
         (
-          record { samples = l .1 .1 .1 .1 .1 .1 .0 ∙ h .1 .1 .0 .samples-of; fronts = l .1 .1 .1 .1 .1 .1 .1 .0 ∙ h .1 .1 .0 .fronts-of; marks = l .1 .1 .1 .1 .1 .1 .1 .1 .1 .0 ∙ h .1 .1 .0 .marks-of },
-          record { samples = r .1 .1 .1 .1 .1 .1 .0 ∙ h .1 .1 .1 .0 .samples-of; fronts = r .1 .1 .1 .1 .1 .1 .1 .0 ∙ h .1 .1 .1 .0 .fronts-of; marks = r .1 .1 .1 .1 .1 .1 .1 .1 .1 .0 ∙ h .1 .1 .1 .0 .marks-of },
+          record { samples = l .1 .1 .1 .1 .1 .1 .1 .0 ∙ h .1 .1 .0 .samples-of; fronts = l .1 .1 .1 .1 .1 .1 .1 .1 .0 ∙ h .1 .1 .0 .fronts-of; marks = l .1 .1 .1 .1 .1 .1 .1 .1 .1 .1 .0 ∙ h .1 .1 .0 .marks-of },
+          record { samples = r .1 .1 .1 .1 .1 .1 .1 .0 ∙ h .1 .1 .1 .0 .samples-of; fronts = r .1 .1 .1 .1 .1 .1 .1 .1 .0 ∙ h .1 .1 .1 .0 .fronts-of; marks = r .1 .1 .1 .1 .1 .1 .1 .1 .1 .1 .0 ∙ h .1 .1 .1 .0 .marks-of },
         ),
         h .1 .1 .1 .1,
       ),
     )
 
 same-length : tie.Need-same-length
-same-length c = c .before .before .before .before .before .before .before .before .before .before .before .before .before .before .before .before .before .before .before .before .before .before .before .before .before .before .before .before .before .before .before .draw-view .kept .1 .1 .1 .1 .1 .1 .0
+same-length c = c .before .before .before .before .before .before .before .before .before .before .before .before .before .before .before .before .before .before .before .before .before .before .before .before .before .before .before .before .before .before .before .draw-view .kept .1 .1 .1 .1 .1 .1 .1 .0
 
 returns : tie.Need-returns
 returns c = record { left = c .before .before .before .before .before .before .before .before .before .before .before .before .before .before .before .before .before .before .before .before .before .before .before .before .before .before .before .before .before .before .before .draw-view .ensures; right = c .before .before .before .before .before .before .before .before .before .before .before .before .before .before .before .before .before .before .before .draw-view2 .ensures; picture = c .before .before .combine-picture .ensures }

@@ -12,17 +12,17 @@ use Rattle.open.proofs.open.Tie as tie
 
 returns : tie.Need-returns
 returns c =
-    let a = c .before .before .before .before .before .before .before .before .before .before .before .before .before .before .before .before .before .before .before .before .args in
+    let a = c .before .before .before .before .before .before .before .before .before .before .before .before .before .before .before .before .before .before .before .before .before .args in
     let p = pictures (a .left .now) (a .right .now) (a .reference .now) in
     let d = depths (a .leftDepths .now) (a .rightDepths .now) in
     let g = held (view (a .leftSamples .now) (a .leftFronts .now) (a .leftLimits .now) (a .leftMarks .now)) (view (a .rightSamples .now) (a .rightFronts .now) (a .rightLimits .now) (a .rightMarks .now)) (a .combined .now) in
     let j = a .journal .now in
     refused (a .settings) p d g j _ (c .before .before .refusal-of .ensures ∙ common-number (a .settings) p d g (unless (wordsOk j) 13 (unless (picturesOk p) 21 0))) (λ q. c .if1 .taken (c .before .number .ensures ∙ q))
-    (record { left = λ i. omega (arith, c .before .before .before .before .before .before .before .before .before .before .before .before .before .before .before .before .shared-slice-known4 .given i); right = λ i. omega (arith, c .before .before .before .before .before .before .before .before .before .before .before .before .before .before .before .shared-slice-known5 .given i) })
+    (record { left = λ i. omega (arith, c .before .before .before .before .before .before .before .before .before .before .before .before .before .before .before .before .before .shared-slice-known4 .given i); right = λ i. omega (arith, c .before .before .before .before .before .before .before .before .before .before .before .before .before .before .before .before .shared-slice-known5 .given i) })
 
 fill-requires : tie.Need-fill-requires
 fill-requires c κs =
-    let a = c .before .before .before .before .before .before .before .before .before .before .before .before .before .before .before .before .before .before .before .before .before .before .before .before .before .before .before .before .before .before .before .before .before .args in
+    let a = c .before .before .before .before .before .before .before .before .before .before .before .before .before .before .before .before .before .before .before .before .before .before .before .before .before .before .before .before .before .before .before .before .before .before .args in
     let p = pictures (a .left .now) (a .right .now) (a .reference .now) in
     let d = depths (a .leftDepths .now) (a .rightDepths .now) in
     let g = held (view (a .leftSamples .now) (a .leftFronts .now) (a .leftLimits .now) (a .leftMarks .now)) (view (a .rightSamples .now) (a .rightFronts .now) (a .rightLimits .now) (a .rightMarks .now)) (a .combined .now) in
@@ -35,7 +35,7 @@ fill-requires c κs =
 
 slice-write-journal : tie.Need-slice-write-journal
 slice-write-journal c =
-    let a = c .before .before .before .before .before .before .before .before .before .before .before .before .before .before .before .before .before .before .before .before .before .before .before .before .before .before .before .before .before .before .before .before .before .before .before .before .before .before .before .before .before .before .before .before .before .before .before .before .before .before .args in
+    let a = c .before .before .before .before .before .before .before .before .before .before .before .before .before .before .before .before .before .before .before .before .before .before .before .before .before .before .before .before .before .before .before .before .before .before .before .before .before .before .before .before .before .before .before .before .before .before .before .before .before .before .before .args in
     let p = pictures (a .left .now) (a .right .now) (a .reference .now) in
     let d = depths (a .leftDepths .now) (a .rightDepths .now) in
     let g = held (view (a .leftSamples .now) (a .leftFronts .now) (a .leftLimits .now) (a .leftMarks .now)) (view (a .rightSamples .now) (a .rightFronts .now) (a .rightLimits .now) (a .rightMarks .now)) (a .combined .now) in
@@ -45,7 +45,7 @@ slice-write-journal c =
 
 returns-2 : tie.Need-returns-2
 returns-2 c =
-    let a = c .before .before .before .before .before .before .before .before .before .before .before .before .before .before .before .before .before .before .before .before .before .before .before .before .before .before .before .before .before .before .before .before .before .before .before .before .before .before .before .before .before .before .before .before .before .before .before .before .before .before .args in
+    let a = c .before .before .before .before .before .before .before .before .before .before .before .before .before .before .before .before .before .before .before .before .before .before .before .before .before .before .before .before .before .before .before .before .before .before .before .before .before .before .before .before .before .before .before .before .before .before .before .before .before .before .before .args in
     let p = pictures (a .left .now) (a .right .now) (a .reference .now) in
     let d = depths (a .leftDepths .now) (a .rightDepths .now) in
     let g = held (view (a .leftSamples .now) (a .leftFronts .now) (a .leftLimits .now) (a .leftMarks .now)) (view (a .rightSamples .now) (a .rightFronts .now) (a .rightLimits .now) (a .rightMarks .now)) (a .combined .now) in
@@ -53,8 +53,8 @@ returns-2 c =
     let n : openNumber (a .settings) p d g j ≡ 0 = sym (c .before .before .before .before .before .before .before .before .before .before .before .before .before .before .before .before .before .before .before .before .before .before .before .before .before .before .before .before .before .before .before .before .refusal-of .ensures ∙ common-number (a .settings) p d g (unless (wordsOk j) 13 (unless (picturesOk p) 21 0))) ∙ (sym (c .before .before .before .before .before .before .before .before .before .before .before .before .before .before .before .before .before .before .before .before .before .before .before .before .before .before .before .before .before .before .before .number .ensures) ∙ c .before .before .before .before .before .before .before .before .before .before .before .before .before .before .before .before .before .before .before .before .before .before .before .before .before .before .before .before .before .before .if1 .left) in
     let f = c .before .before .before .before .before .before .before .before .before .before .before .before .before .before .before .before .fill in
     let k = f .kept in
-    opened (a .settings) p d g _ j _ n (common-kept (a .settings) p d g _ (common-facts (a .settings) p d g (common-passed (a .settings) p d g _ n)) (k .1 .1 .1 .1 .1 .1 .1 .1 .1 .1 .1 .0) (k .1 .1 .1 .1 .1 .1 .1 .1 .1 .1 .1 .1 .0) (k .1 .1 .1 .1 .1 .1 .1 .1 .1 .1 .1 .1 .1 .0) (k .1 .1 .1 .1 .1 .1 .1 .1 .1 .1 .1 .1 .1 .1 .0) (k .1 .1 .1 .1 .1 .1 .1 .1 .1 .1 .1 .1 .1 .1 .1 .0) (k .1 .1 .1 .1 .1 .1 .1 .1 .1 .1 .1 .1 .1 .1 .1 .1 .0) (k .1 .1 .1 .1 .1 .1 .1 .1 .1 .1 .1 .1 .1 .1 .1 .1 .1 .0) (k .1 .1 .1 .1 .1 .1 .1 .1 .1 .1 .1 .1 .1 .1 .1 .1 .1 .1 .0) (k .1 .1 .1 .1 .1 .1 .1 .1 .1 .1 .1 .1 .1 .1 .1 .1 .1 .1 .1 .0)) (f .ensures)
-    (record { left = λ i. omega (arith, c .before .before .before .before .before .before .before .before .before .before .before .before .before .before .before .before .before .before .before .before .before .before .before .before .before .before .before .before .before .before .before .before .before .before .before .before .before .before .before .before .before .before .before .before .before .before .shared-slice-known4 .given i); right = λ i. omega (arith, c .before .before .before .before .before .before .before .before .before .before .before .before .before .before .before .before .before .before .before .before .before .before .before .before .before .before .before .before .before .before .before .before .before .before .before .before .before .before .before .before .before .before .before .before .before .shared-slice-known5 .given i) })
+    opened (a .settings) p d g _ j _ n (common-kept (a .settings) p d g _ (common-facts (a .settings) p d g (common-passed (a .settings) p d g _ n)) (k .1 .1 .1 .1 .1 .1 .1 .1 .1 .1 .1 .1 .0) (k .1 .1 .1 .1 .1 .1 .1 .1 .1 .1 .1 .1 .1 .0) (k .1 .1 .1 .1 .1 .1 .1 .1 .1 .1 .1 .1 .1 .1 .0) (k .1 .1 .1 .1 .1 .1 .1 .1 .1 .1 .1 .1 .1 .1 .1 .0) (k .1 .1 .1 .1 .1 .1 .1 .1 .1 .1 .1 .1 .1 .1 .1 .1 .0) (k .1 .1 .1 .1 .1 .1 .1 .1 .1 .1 .1 .1 .1 .1 .1 .1 .1 .0) (k .1 .1 .1 .1 .1 .1 .1 .1 .1 .1 .1 .1 .1 .1 .1 .1 .1 .1 .0) (k .1 .1 .1 .1 .1 .1 .1 .1 .1 .1 .1 .1 .1 .1 .1 .1 .1 .1 .1 .0) (k .1 .1 .1 .1 .1 .1 .1 .1 .1 .1 .1 .1 .1 .1 .1 .1 .1 .1 .1 .1 .0)) (f .ensures)
+    (record { left = λ i. omega (arith, c .before .before .before .before .before .before .before .before .before .before .before .before .before .before .before .before .before .before .before .before .before .before .before .before .before .before .before .before .before .before .before .before .before .before .before .before .before .before .before .before .before .before .before .before .before .before .before .shared-slice-known4 .given i); right = λ i. omega (arith, c .before .before .before .before .before .before .before .before .before .before .before .before .before .before .before .before .before .before .before .before .before .before .before .before .before .before .before .before .before .before .before .before .before .before .before .before .before .before .before .before .before .before .before .before .before .before .shared-slice-known5 .given i) })
 
 pub open-spec : {M : Type 1} → statement M
 open-spec =

@@ -14,14 +14,14 @@ returns : tie.Need-returns
 returns c =
     let a = c .before .before .before .before .before .before .args in
     let e = c .before .before .common .ensures in
-    e ∙ sym (numbers-before (a .w) (a .h) (a .leftTable .now) (a .rightTable .now) (a .share) (a .lengths) .stays _ (λ z. c .if1 .taken (c .before .number .ensures ∙ e ∙ z)))
+    e ∙ sym (numbers-before (a .w) (a .h) (a .leftTable .now) (a .rightTable .now) (a .share) (a .tear) (a .lengths) .stays _ (λ z. c .if1 .taken (c .before .number .ensures ∙ e ∙ z)))
 
 returns-2 : tie.Need-returns-2
 returns-2 c =
     let a = c .before .before .before .before .before .before .before .args in
     let p = pictures (a .left .now) (a .right .now) (a .reference .now) in
     let e = c .before .before .before .common .ensures in
-    sym (numbers-before (a .w) (a .h) (a .leftTable .now) (a .rightTable .now) (a .share) (a .lengths) .rest _ (sym e ∙ sym (c .before .before .number .ensures) ∙ c .before .if1 .left)
+    sym (numbers-before (a .w) (a .h) (a .leftTable .now) (a .rightTable .now) (a .share) (a .tear) (a .lengths) .rest _ (sym e ∙ sym (c .before .before .number .ensures) ∙ c .before .if1 .left)
     ∙ ap (λ (t : Bool). unless t 13 (unless (picturesOk p) 21 0)) (le-ltb 0 (a .words) (omega (arith, c .if2 .taken))))
 
 returns-3 : tie.Need-returns-3
@@ -30,7 +30,7 @@ returns-3 c =
     let p = pictures (a .left .now) (a .right .now) (a .reference .now) in
     let e = c .before .before .before .before .before .common .ensures in
     let found = sym (c .before .pictures-ok .ensures) ∙ c .if3 .taken in
-    sym (numbers-before (a .w) (a .h) (a .leftTable .now) (a .rightTable .now) (a .share) (a .lengths) .rest _ (sym e ∙ sym (c .before .before .before .before .number .ensures) ∙ c .before .before .before .if1 .left)
+    sym (numbers-before (a .w) (a .h) (a .leftTable .now) (a .rightTable .now) (a .share) (a .tear) (a .lengths) .rest _ (sym e ∙ sym (c .before .before .before .before .number .ensures) ∙ c .before .before .before .if1 .left)
     ∙ (ap (λ (t : Bool). unless t 13 (unless (picturesOk p) 21 0)) (lt-ltb 0 (a .words) (omega (arith, c .before .before .if2 .left))) ∙ ap (λ (t : Bool). unless t 21 0) found))
 
 returns-4 : tie.Need-returns-4
@@ -39,7 +39,7 @@ returns-4 c =
     let p = pictures (a .left .now) (a .right .now) (a .reference .now) in
     let e = c .before .before .before .before .before .common .ensures in
     let found = sym (c .before .pictures-ok .ensures) ∙ c .if3 .left in
-    sym (numbers-before (a .w) (a .h) (a .leftTable .now) (a .rightTable .now) (a .share) (a .lengths) .rest _ (sym e ∙ sym (c .before .before .before .before .number .ensures) ∙ c .before .before .before .if1 .left)
+    sym (numbers-before (a .w) (a .h) (a .leftTable .now) (a .rightTable .now) (a .share) (a .tear) (a .lengths) .rest _ (sym e ∙ sym (c .before .before .before .before .number .ensures) ∙ c .before .before .before .if1 .left)
     ∙ (ap (λ (t : Bool). unless t 13 (unless (picturesOk p) 21 0)) (lt-ltb 0 (a .words) (omega (arith, c .before .before .if2 .left))) ∙ ap (λ (t : Bool). unless t 21 0) found))
 
 pub refusal-of-spec : {M : Type 1} → statement M

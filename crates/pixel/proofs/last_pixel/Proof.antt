@@ -9,8 +9,10 @@ use Rattle.pixel.proofs.last_pixel.Tie as tie
 returns : tie.Need-returns
 unfolding lastOf
 returns c =
-    let t = c .before .before .args .t in
-    ⊎-elim (λ h. rw (lt-leb t 1 h, lt-ltb 1 t h, c .sample-at .ensures)) (λ h. rw (le-leb t 1 h, le-ltb 1 t h, c .sample-at .ensures)) (lt-or-le 1 t)
+    let a = c .before .before .before .args in
+    let t = a .t in
+    let n = a .tear .distance in
+    ⊎-elim (λ h. rw (lt-leb t n h, lt-ltb n t h, c .before .sample-at .ensures)) (λ h. rw (le-leb t n h, le-ltb n t h, c .before .sample-at .ensures)) (lt-or-le n t)
 
 pub last-pixel-spec : {M : Type 1} → statement M
-last-pixel-spec = tie.close (tie.spec (λ c κs. search needs) (λ c. search needs) returns)
+last-pixel-spec = tie.close (tie.spec (λ c κs. search needs) (λ c. search needs) (λ c. search needs) returns)

@@ -13,4 +13,4 @@ unfolding tornOf
 returns-2 c = rw (lt-leb _ _ (c .before .if1 .left), c .sample-after .ensures)
 
 pub torn-pixel-spec : {M : Type 1} → statement M
-torn-pixel-spec = tie.close (tie.spec (λ c κs. search needs) (λ c κs. search needs) returns returns-2)
+torn-pixel-spec = tie.close (tie.spec (λ c. search needs) (λ c κs. search needs) (λ c κs. search needs) returns returns-2)

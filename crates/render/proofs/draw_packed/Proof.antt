@@ -25,7 +25,7 @@ slice-aggregate-pack c =
     let s = c .before .before .before .before .before .before .before .before .before .before .before .before .before .before .before .before .before in
     let w = length (now (s .args .depths)) in
     let d = c .before .before .before .before .before .before .before .draw-view-row in
-    sym (part-length (d .last .1 .1 .1 .1 .1 .1 .0) _ w (d .kept .1 .1 .1 .1 .1 .1 .0 ∙ length-take-le w (now (s .args .flags)) (s .pre .1 .1)))
+    sym (part-length (d .last .1 .1 .1 .1 .1 .1 .1 .0) _ w (d .kept .1 .1 .1 .1 .1 .1 .1 .0 ∙ length-take-le w (now (s .args .flags)) (s .pre .1 .1)))
 
 pack-requires : tie.Need-pack-requires
 pack-requires c κs =
@@ -33,11 +33,11 @@ pack-requires c κs =
     let a = s .args in
     let w = length (now (a .depths)) in
     let d = c .before .before .before .before .before .before .before .before .draw-view-row in
-    let fs = d .last .1 .1 .1 .1 .1 .1 .0 in
-    let n : length fs ≡ w = d .kept .1 .1 .1 .1 .1 .1 .0 ∙ length-take-le w (now (a .flags)) (s .pre .1 .1) in
+    let fs = d .last .1 .1 .1 .1 .1 .1 .1 .0 in
+    let n : length fs ≡ w = d .kept .1 .1 .1 .1 .1 .1 .1 .0 ∙ length-take-le w (now (a .flags)) (s .pre .1 .1) in
     let k = part-length fs _ w n in (
       (s .pre .1 .0 .1 .0 ∙ ap markBytes (sym k), rw k (s .pre .0 .most)),
-      part-flags (a .right) (line (now (a .table)) (now (a .texture)) (now (a .depths))) fs _ w n (d .ensures),
+      part-flags (a .right) (line (a .tear) (now (a .table)) (now (a .texture)) (now (a .depths))) fs _ w n (d .ensures),
     )
 
 returns : tie.Need-returns
@@ -46,8 +46,8 @@ returns c =
     let a = s .args in
     let w = length (now (a .depths)) in
     let d = c .before .before .before .before .before .before .before .before .before .before .before .draw-view-row in
-    let n = d .kept .1 .1 .1 .1 .1 .1 .0 ∙ length-take-le w (now (a .flags)) (s .pre .1 .1) in
-    packed (viewRow (a .right) (line (now (a .table)) (now (a .texture)) (now (a .depths)))) _ _ (d .last .1 .1 .1 .1 .1 .1 .0) _ _ w n (d .ensures) (c .before .before .pack .ensures)
+    let n = d .kept .1 .1 .1 .1 .1 .1 .1 .0 ∙ length-take-le w (now (a .flags)) (s .pre .1 .1) in
+    packed (viewRow (a .right) (line (a .tear) (now (a .table)) (now (a .texture)) (now (a .depths)))) _ _ (d .last .1 .1 .1 .1 .1 .1 .1 .0) _ _ w n (d .ensures) (c .before .before .pack .ensures)
 
 pub draw-packed-spec : {M : Type 1} → statement M
 draw-packed-spec =

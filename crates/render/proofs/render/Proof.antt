@@ -9,13 +9,13 @@ use Rattle.render.proofs.render.Tie as tie
 
 returns : tie.Need-returns
 returns c =
-    let a = c .before .before .before .before .before .before .before .before .before .before .before .before .args in
+    let a = c .before .before .before .before .before .before .before .before .before .before .before .before .before .args in
     let x = strip (now (a .samples)) (now (a .marks)) (now (a .fronts)) in
     refused (a .settings) (a .view) (now (a .texture)) (now (a .depths)) x (c .before .before .strip-refusal .result) (c .before .before .strip-refusal .ensures) (c .before .number .ensures) (c .if1 .taken)
 
 draw-strip-requires : tie.Need-draw-strip-requires
 draw-strip-requires c κs =
-    let a = c .before .before .before .before .before .before .before .before .before .before .before .before .before .before .before .before .before .args in
+    let a = c .before .before .before .before .before .before .before .before .before .before .before .before .before .before .before .before .before .before .args in
     let x = strip (now (a .samples)) (now (a .marks)) (now (a .fronts)) in
     let s = a .settings in
     let t = now (a .texture) in
@@ -25,7 +25,7 @@ draw-strip-requires c κs =
 
 draw-strip-requires-2 : tie.Need-draw-strip-requires-2
 draw-strip-requires-2 c κs =
-    let a = c .before .before .before .before .before .before .before .before .before .before .before .before .before .before .before .before .before .args in
+    let a = c .before .before .before .before .before .before .before .before .before .before .before .before .before .before .before .before .before .before .args in
     let x = strip (now (a .samples)) (now (a .marks)) (now (a .fronts)) in
     let s = a .settings in
     let t = now (a .texture) in
@@ -35,7 +35,7 @@ draw-strip-requires-2 c κs =
 
 returns-2 : tie.Need-returns-2
 returns-2 c =
-    let a = c .before .before .before .before .before .before .before .before .before .before .before .before .before .before .before .before .before .before .before .before .before .before .before .before .args in
+    let a = c .before .before .before .before .before .before .before .before .before .before .before .before .before .before .before .before .before .before .before .before .before .before .before .before .before .args in
     let x = strip (now (a .samples)) (now (a .marks)) (now (a .fronts)) in
     let s = a .settings in
     let t = now (a .texture) in
@@ -48,7 +48,7 @@ returns-2 c =
 
 returns-3 : tie.Need-returns-3
 returns-3 c =
-    let a = c .before .before .before .before .before .before .before .before .before .before .before .before .before .before .before .before .before .before .before .before .before .before .before .before .args in
+    let a = c .before .before .before .before .before .before .before .before .before .before .before .before .before .before .before .before .before .before .before .before .before .before .before .before .before .args in
     let x = strip (now (a .samples)) (now (a .marks)) (now (a .fronts)) in
     let s = a .settings in
     let t = now (a .texture) in

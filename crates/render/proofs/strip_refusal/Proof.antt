@@ -2,7 +2,7 @@ use mathlib.Core.Path.{_≡_, sym, _∙_}
 use mathlib.Core.Bool.{true, _&&_}
 use borrow.Author.Tests.{not-true, not-false, le-leb, lt-leb}
 use denote.Ref.{now}
-use Rattle.model.specs.Refusals.{sideOk, tableOk}
+use Rattle.model.specs.Refusals.{sideOk, tableOk, tearOk}
 use Rattle.model.proofs.Refusals.{side-facts}
 use Rattle.render.specs.Numbers.{stripFits, stripNumber}
 use borrow.Author.Needs.{needs}
@@ -36,11 +36,22 @@ returns-3 c = rw (w-ok (c .before .before .before .before), planes-ok (c .before
 
 returns-4 : tie.Need-returns-4
 unfolding stripNumber
-returns-4 c = rw (w-ok (c .before .before .before .before .before), planes-ok (c .before .before .before), tables-ok (c .before), lt-leb _ _ (c .if4 .taken))
+returns-4 c =
+    rw (w-ok (c .before .before .before .before .before .before), planes-ok (c .before .before .before .before), tables-ok (c .before .before), sym (c .before .tear-ok .ensures) ∙ not-true _ (c .if4 .taken))
+
+-- what is left once the tear has passed
+tear-passed : (c : tie.Else4) → tearOk (c .before .before .before .before .before .before .before .before .args .tear) ≡ true
+tear-passed c = sym (c .before .tear-ok .ensures) ∙ not-false _ (c .if4 .left)
 
 returns-5 : tie.Need-returns-5
 unfolding stripNumber
-returns-5 c = rw (w-ok (c .before .before .before .before .before), planes-ok (c .before .before .before), tables-ok (c .before), le-leb _ _ (c .if4 .left))
+returns-5 c =
+    rw (w-ok (c .before .before .before .before .before .before .before), planes-ok (c .before .before .before .before .before), tables-ok (c .before .before .before), tear-passed (c .before), lt-leb _ _ (c .if5 .taken))
+
+returns-6 : tie.Need-returns-6
+unfolding stripNumber
+returns-6 c =
+    rw (w-ok (c .before .before .before .before .before .before .before), planes-ok (c .before .before .before .before .before), tables-ok (c .before .before .before), tear-passed (c .before), le-leb _ _ (c .if5 .left))
 
 pub strip-refusal-spec : {M : Type 1} → statement M
 strip-refusal-spec =
@@ -52,5 +63,7 @@ strip-refusal-spec =
     returns-2
     (λ c κs. search needs)
     returns-3
+    (λ c κs. search needs)
     returns-4
-    returns-5)
+    returns-5
+    returns-6)

@@ -38,7 +38,7 @@ returns c =
 set-saved-requires : tie.Need-set-saved-requires
 set-saved-requires c κs =
     let p = c .before .before .before .before .before .before .before .before .before .before .before .before .before .before .before .before .before .before .before .before .before .before .before .before .before .before .before .before .before .before .before .before .before .pre in
-    (p .0, (p .1 .1 .0, (set-requires (p .1 .0) (p .1 .1 .1 .0) .0, (p .1 .1 .1 .0, (p .1 .1 .1 .1, c .before .before .before .before .before .before .before .before .before .before .before .before .trial-saved .kept .1 .1 .1 .1 .1 .1 .1 .1 .1 .1 .1 .1 .1 .1 .0 ∙ sym (c .before .before .before .before .before .before .before .before .before .before .before .before .before .before .before .before .before .long-room .ensures))))))
+    (p .0, (p .1 .1 .0, (set-requires (p .1 .0) (p .1 .1 .1 .0) .0, (p .1 .1 .1 .0, (p .1 .1 .1 .1, c .before .before .before .before .before .before .before .before .before .before .before .before .trial-saved .kept .1 .1 .1 .1 .1 .1 .1 .1 .1 .1 .1 .1 .1 .1 .1 .0 ∙ sym (c .before .before .before .before .before .before .before .before .before .before .before .before .before .before .before .before .before .long-room .ensures))))))
 
 returns-2 : tie.Need-returns-2
 returns-2 c =

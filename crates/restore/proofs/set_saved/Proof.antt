@@ -13,13 +13,13 @@ use Rattle.restore.proofs.set_saved.Statement.{statement}
 use Rattle.restore.proofs.set_saved.Tie as tie
 
 abbrev Inv-loop : tie.InvT-loop
-Inv-loop right table share tolerance w h column row width height texture words room₀ depths₀ samples₀ fronts₀ limits₀ marks₀ samples2 fronts2 marks2 combined₀ done₀ room depths samples fronts limits marks combined done =
+Inv-loop tear right table share tolerance w h column row width height texture words room₀ depths₀ samples₀ fronts₀ limits₀ marks₀ samples2 fronts2 marks2 combined₀ done₀ room depths samples fronts limits marks combined done =
     (done ≤ height) × ((length room ≡ 4096)
-    × Through right table share tolerance w h (blockOf column row width height) done texture words samples2 fronts2 marks2 depths₀ depths
+    × Through tear right table share tolerance w h (blockOf column row width height) done texture words samples2 fronts2 marks2 depths₀ depths
     (view samples₀ fronts₀ limits₀ marks₀) (view samples fronts limits marks) combined₀ combined)
 
 abbrev μ-loop : tie.MeasureT-loop
-μ-loop right table share tolerance w h column row width height texture words room₀ depths₀ samples₀ fronts₀ limits₀ marks₀ samples2 fronts2 marks2 combined₀ done₀ room depths samples fronts limits marks combined done = height - done
+μ-loop tear right table share tolerance w h column row width height texture words room₀ depths₀ samples₀ fronts₀ limits₀ marks₀ samples2 fronts2 marks2 combined₀ done₀ room depths samples fronts limits marks combined done = height - done
 
 loop-holds : tie.Need-loop-holds Inv-loop μ-loop
 loop-holds c =

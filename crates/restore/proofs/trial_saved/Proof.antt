@@ -14,12 +14,12 @@ use Rattle.restore.proofs.trial_saved.Statement.{statement}
 use Rattle.restore.proofs.trial_saved.Tie as tie
 
 abbrev Inv-loop : tie.InvT-loop
-Inv-loop right table share tolerance w h column row width height texture depths limits words room₀ samples fronts marks combined reference old₀ new₀ done₀ room old new done =
+Inv-loop tear right table share tolerance w h column row width height texture depths limits words room₀ samples fronts marks combined reference old₀ new₀ done₀ room old new done =
     (done ≤ height) × ((length room ≡ 4096)
-    × BlockTrial w (around right share tolerance samples fronts marks combined reference) (own table texture depths limits) (blockOf column row width height) words done old new)
+    × BlockTrial w (around right share tolerance samples fronts marks combined reference) (own tear table texture depths limits) (blockOf column row width height) words done old new)
 
 abbrev μ-loop : tie.MeasureT-loop
-μ-loop right table share tolerance w h column row width height texture depths limits words room₀ samples fronts marks combined reference old₀ new₀ done₀ room old new done = height - done
+μ-loop tear right table share tolerance w h column row width height texture depths limits words room₀ samples fronts marks combined reference old₀ new₀ done₀ room old new done = height - done
 
 loop-holds : tie.Need-loop-holds Inv-loop μ-loop
 loop-holds c =
@@ -75,7 +75,7 @@ add-old c =
     let n = c .before .before .before .before .before .narrow-rows in
     let b = blockOf (a .column) (a .row) (a .width) (a .height) in
     let o = around (a .right) (a .share) (a .tolerance) (now (a .samples)) (now (a .fronts)) (now (a .marks)) (now (a .combined)) (now (a .reference)) in
-    let v = own (now (a .table)) (now (a .texture)) (now (a .depths)) (now (a .limits)) in
+    let v = own (a .tear) (now (a .table)) (now (a .texture)) (now (a .depths)) (now (a .limits)) in
     let f = s .pre .1 .1 .0 in
     let more : l .done + n .result ≤ a .height = omega (arith, n .ensures .few, c .before .before .before .before .before .before .before .loop-test .taken) in
     let next = block-saved b (now (a .words)) _ (l .done) (n .result) (f .entries) more (n .ensures .rows) (l .inv .1 .1) (c .before .trial-block .ensures) in
@@ -89,7 +89,7 @@ add-new c =
     let n = c .before .before .before .before .before .before .narrow-rows in
     let b = blockOf (a .column) (a .row) (a .width) (a .height) in
     let o = around (a .right) (a .share) (a .tolerance) (now (a .samples)) (now (a .fronts)) (now (a .marks)) (now (a .combined)) (now (a .reference)) in
-    let v = own (now (a .table)) (now (a .texture)) (now (a .depths)) (now (a .limits)) in
+    let v = own (a .tear) (now (a .table)) (now (a .texture)) (now (a .depths)) (now (a .limits)) in
     let f = s .pre .1 .1 .0 in
     let more : l .done + n .result ≤ a .height = omega (arith, n .ensures .few, c .before .before .before .before .before .before .before .before .loop-test .taken) in
     let next = block-saved b (now (a .words)) _ (l .done) (n .result) (f .entries) more (n .ensures .rows) (l .inv .1 .1) (c .before .before .trial-block .ensures) in
@@ -109,7 +109,7 @@ loop-again c =
     let n = c .before .before .before .before .before .before .narrow-rows in
     let b = blockOf (a .column) (a .row) (a .width) (a .height) in
     let o = around (a .right) (a .share) (a .tolerance) (now (a .samples)) (now (a .fronts)) (now (a .marks)) (now (a .combined)) (now (a .reference)) in
-    let v = own (now (a .table)) (now (a .texture)) (now (a .depths)) (now (a .limits)) in
+    let v = own (a .tear) (now (a .table)) (now (a .texture)) (now (a .depths)) (now (a .limits)) in
     let f = s .pre .1 .1 .0 in
     let more : l .done + n .result ≤ a .height = omega (arith, n .ensures .few, c .before .before .before .before .before .before .before .before .loop-test .taken) in
     let next = block-saved b (now (a .words)) _ (l .done) (n .result) (f .entries) more (n .ensures .rows) (l .inv .1 .1) (c .before .before .trial-block .ensures) in
@@ -125,7 +125,7 @@ returns c =
     let l = c .before .loop in
     let b = blockOf (a .column) (a .row) (a .width) (a .height) in
     let o = around (a .right) (a .share) (a .tolerance) (now (a .samples)) (now (a .fronts)) (now (a .marks)) (now (a .combined)) (now (a .reference)) in
-    let v = own (now (a .table)) (now (a .texture)) (now (a .depths)) (now (a .limits)) in
+    let v = own (a .tear) (now (a .table)) (now (a .texture)) (now (a .depths)) (now (a .limits)) in
     let e : l .done ≡ a .height = omega (arith, l .inv .0, c .loop-test .left) in
     subst (λ (n : ℕ). BlockTrial (a .w) o v b (now (a .words)) n (l .old) (l .new)) e (l .inv .1 .1)
 

@@ -28,7 +28,7 @@ draw-span-requires c κs =
     let column = q .ensures .0 in
     let limit = ap (λ (e : Edge). e .limit) (q .ensures .1 .0) in
     rw empty (
-      (ready-seen (a .right) (now (a .table)) (now (a .texture)) (now (a .depths)) (p .0), omega arith),
+      (ready-seen (a .tear) (a .right) (now (a .table)) (now (a .texture)) (now (a .depths)) (p .0), omega arith),
       (
         record {
           among = rw (length-seen (a .right) (now (a .depths))) (q .ensures .1 .1 .0);

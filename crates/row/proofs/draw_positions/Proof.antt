@@ -18,17 +18,17 @@ use Rattle.row.proofs.draw_positions.Statement.{statement}
 use Rattle.row.proofs.draw_positions.Tie as tie
 
 abbrev Inv-loop : tie.InvT-loop
-Inv-loop right table texture depths candidate column start samples₀ fronts₀ flags₀ q₀ i₀ samples fronts flags q i =
+Inv-loop tear right table texture depths candidate column start samples₀ fronts₀ flags₀ q₀ i₀ samples fronts flags q i =
     (i ≤ length samples₀)
     × ((length samples ≡ length samples₀)
     × ((length fronts ≡ length samples₀)
     × ((length flags ≡ length samples₀)
-    × ((Ahead right (lineWith right table texture depths column candidate) (start + i) q)
-    × ((Passed (lineWith right table texture depths column candidate) q₀ q (start + i))
-    × Painted (λ k. pixelBelow (lineWith right table texture depths column candidate) (q₀ .column + 1) (edgeRight q₀) (start + k)) i (length samples₀) (seen right samples₀) (seen right fronts₀) (seen right flags₀) (seen right samples) (seen right fronts) (seen right flags))))))
+    × ((Ahead right (lineWith tear right table texture depths column candidate) (start + i) q)
+    × ((Passed (lineWith tear right table texture depths column candidate) q₀ q (start + i))
+    × Painted (λ k. pixelBelow (lineWith tear right table texture depths column candidate) (q₀ .column + 1) (edgeRight q₀) (start + k)) i (length samples₀) (seen right samples₀) (seen right fronts₀) (seen right flags₀) (seen right samples) (seen right fronts) (seen right flags))))))
 
 abbrev μ-loop : tie.MeasureT-loop
-μ-loop right table texture depths candidate column start samples₀ fronts₀ flags₀ q₀ i₀ samples fronts flags q i = q .column + i
+μ-loop tear right table texture depths candidate column start samples₀ fronts₀ flags₀ q₀ i₀ samples fronts flags q i = q .column + i
 
 loop-holds : tie.Need-loop-holds Inv-loop μ-loop
 loop-holds c =

@@ -18,7 +18,7 @@ returns c =
     let e = c .before .draw-limits in
     record {
       shows = c .before .before .before .before .before .before .before .before .before .draw-view-row .ensures;
-      limits-are = limits-whole (a .right) (now (a .table)) (now (a .texture)) (now (a .depths)) (length (now (a .depths))) (p .0 .some) refl _ (e .kept .1 .1 .1 .1 .1 .0 ∙ p .1 .1 .1 .1) (e .ensures);
+      limits-are = limits-whole (a .tear) (a .right) (now (a .table)) (now (a .texture)) (now (a .depths)) (length (now (a .depths))) (p .0 .some) refl _ (e .kept .1 .1 .1 .1 .1 .0 ∙ p .1 .1 .1 .1) (e .ensures);
     }
 
 pub draw-row-spec : {M : Type 1} → statement M

@@ -23,8 +23,8 @@ returns c =
     let a = s .args in
     let p = s .pre in
     let drawn = c .before .before .before .before .before .before .draw-part in
-    let k = drawn .kept .1 .1 .1 .1 .1 .1 .1 in
-    row-whole (a .right) (now (a .table)) (now (a .texture)) (now (a .depths)) (length (now (a .depths))) (p .0 .some) refl _ _ _ (k .0 ∙ p .1 .0) (k .1 .0 ∙ p .1 .1 .0) (k .1 .1 .0 ∙ p .1 .1 .1) (rw (p .1 .0) at (drawn .ensures))
+    let k = drawn .kept .1 .1 .1 .1 .1 .1 .1 .1 in
+    row-whole (a .tear) (a .right) (now (a .table)) (now (a .texture)) (now (a .depths)) (length (now (a .depths))) (p .0 .some) refl _ _ _ (k .0 ∙ p .1 .0) (k .1 .0 ∙ p .1 .1 .0) (k .1 .1 .0 ∙ p .1 .1 .1) (rw (p .1 .0) at (drawn .ensures))
 
 pub draw-view-row-spec : {M : Type 1} → statement M
 draw-view-row-spec =

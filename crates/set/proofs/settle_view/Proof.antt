@@ -16,7 +16,7 @@ settle-requires : tie.Need-settle-requires
 settle-requires c κs =
     let start = c .before .before .before .before .before .before .before .before .before .before .before .before .before .before .before .before .before .before .before .before .before .before .before .before .before in
     let a = start .args in
-    let s = settingsOf (a .w) (a .h) (a .leftTable .now) (a .rightTable .now) (a .share) (a .tolerance) (a .total) in
+    let s = settingsOf (a .w) (a .h) (a .leftTable .now) (a .rightTable .now) (a .share) (a .tolerance) (a .tear) (a .total) in
     let p = pictures (a .left .now) (a .right .now) (a .reference .now) in
     let d = depths (a .leftDepths .now) (a .rightDepths .now) in
     let h = heldOf (a .leftSamples .now) (a .leftFronts .now) (a .leftLimits .now) (a .leftMarks .now) (a .rightSamples .now) (a .rightFronts .now) (a .rightLimits .now) (a .rightMarks .now) (a .combined .now) in
@@ -28,7 +28,7 @@ returns : tie.Need-returns
 returns c =
     let start = c .before .before .before .before .before .before .before .before .before .before .before .before .before .before .before .before .before .before .before .before .before .before .before .before .before .before .before .before .before .before .before .before .before .before .before .before .before .before .before in
     let a = start .args in
-    let s = settingsOf (a .w) (a .h) (a .leftTable .now) (a .rightTable .now) (a .share) (a .tolerance) (a .total) in
+    let s = settingsOf (a .w) (a .h) (a .leftTable .now) (a .rightTable .now) (a .share) (a .tolerance) (a .tear) (a .total) in
     let p = pictures (a .left .now) (a .right .now) (a .reference .now) in
     let d = depths (a .leftDepths .now) (a .rightDepths .now) in
     let h = heldOf (a .leftSamples .now) (a .leftFronts .now) (a .leftLimits .now) (a .leftMarks .now) (a .rightSamples .now) (a .rightFronts .now) (a .rightLimits .now) (a .rightMarks .now) (a .combined .now) in
@@ -41,7 +41,7 @@ settle-requires-2 : tie.Need-settle-requires-2
 settle-requires-2 c κs =
     let start = c .before .before .before .before .before .before .before .before .before .before .before .before .before .before .before .before .before .before .before .before .before .before .before .before .before in
     let a = start .args in
-    let s = settingsOf (a .w) (a .h) (a .leftTable .now) (a .rightTable .now) (a .share) (a .tolerance) (a .total) in
+    let s = settingsOf (a .w) (a .h) (a .leftTable .now) (a .rightTable .now) (a .share) (a .tolerance) (a .tear) (a .total) in
     let p = pictures (a .left .now) (a .right .now) (a .reference .now) in
     let d = depths (a .leftDepths .now) (a .rightDepths .now) in
     let h = heldOf (a .leftSamples .now) (a .leftFronts .now) (a .leftLimits .now) (a .leftMarks .now) (a .rightSamples .now) (a .rightFronts .now) (a .rightLimits .now) (a .rightMarks .now) (a .combined .now) in
@@ -53,7 +53,7 @@ returns-2 : tie.Need-returns-2
 returns-2 c =
     let start = c .before .before .before .before .before .before .before .before .before .before .before .before .before .before .before .before .before .before .before .before .before .before .before .before .before .before .before .before .before .before .before .before .before .before .before .before .before .before .before in
     let a = start .args in
-    let s = settingsOf (a .w) (a .h) (a .leftTable .now) (a .rightTable .now) (a .share) (a .tolerance) (a .total) in
+    let s = settingsOf (a .w) (a .h) (a .leftTable .now) (a .rightTable .now) (a .share) (a .tolerance) (a .tear) (a .total) in
     let p = pictures (a .left .now) (a .right .now) (a .reference .now) in
     let d = depths (a .leftDepths .now) (a .rightDepths .now) in
     let h = heldOf (a .leftSamples .now) (a .leftFronts .now) (a .leftLimits .now) (a .leftMarks .now) (a .rightSamples .now) (a .rightFronts .now) (a .rightLimits .now) (a .rightMarks .now) (a .combined .now) in

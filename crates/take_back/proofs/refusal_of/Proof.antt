@@ -9,18 +9,18 @@ returns : tie.Need-returns
 returns c =
     let a = c .before .before .before .before .args in
     let e = c .before .before .common .ensures in
-    e ∙ sym (numbers-before (a .w) (a .h) (a .leftTable .now) (a .rightTable .now) (a .share) (a .lengths) .stays _ (λ z. c .if1 .taken (c .before .number .ensures ∙ e ∙ z)))
+    e ∙ sym (numbers-before (a .w) (a .h) (a .leftTable .now) (a .rightTable .now) (a .share) (a .tear) (a .lengths) .stays _ (λ z. c .if1 .taken (c .before .number .ensures ∙ e ∙ z)))
 
 taking-requires : tie.Need-taking-requires
 taking-requires c κs =
     let a = c .before .before .before .before .args in
-    sides-passed (a .w) (a .h) (a .leftTable .now) (a .rightTable .now) (a .share) (a .lengths) (sym (c .before .before .common .ensures) ∙ sym (c .before .number .ensures) ∙ c .if1 .left)
+    sides-passed (a .w) (a .h) (a .leftTable .now) (a .rightTable .now) (a .share) (a .tear) (a .lengths) (sym (c .before .before .common .ensures) ∙ sym (c .before .number .ensures) ∙ c .if1 .left)
 
 returns-2 : tie.Need-returns-2
 returns-2 c =
     let a = c .before .before .before .before .before .args in
     let e = sym (c .before .before .before .common .ensures) ∙ sym (c .before .before .number .ensures) ∙ c .before .if1 .left in
-    c .taking .ensures ∙ sym (numbers-before (a .w) (a .h) (a .leftTable .now) (a .rightTable .now) (a .share) (a .lengths) .rest _ e)
+    c .taking .ensures ∙ sym (numbers-before (a .w) (a .h) (a .leftTable .now) (a .rightTable .now) (a .share) (a .tear) (a .lengths) .rest _ e)
 
 pub refusal-of-spec : {M : Type 1} → statement M
 refusal-of-spec =

@@ -13,11 +13,11 @@ use Rattle.trial.proofs.trial_block.Statement.{statement}
 use Rattle.trial.proofs.trial_block.Tie as tie
 
 abbrev Inv-loop : tie.InvT-loop
-Inv-loop right table share tolerance w h column row width height texture depths limits candidate samples fronts marks combined reference squares first old₀ new₀ i₀ old new i =
-    (i ≤ height) × BlockTrial w (around right share tolerance samples fronts marks combined reference) (own table texture depths limits) (blockOf column row width height) candidate i old new
+Inv-loop tear right table share tolerance w h column row width height texture depths limits candidate samples fronts marks combined reference squares first old₀ new₀ i₀ old new i =
+    (i ≤ height) × BlockTrial w (around right share tolerance samples fronts marks combined reference) (own tear table texture depths limits) (blockOf column row width height) candidate i old new
 
 abbrev μ-loop : tie.MeasureT-loop
-μ-loop right table share tolerance w h column row width height texture depths limits candidate samples fronts marks combined reference squares first old₀ new₀ i₀ old new i = height - i
+μ-loop tear right table share tolerance w h column row width height texture depths limits candidate samples fronts marks combined reference squares first old₀ new₀ i₀ old new i = height - i
 
 add-part-start : tie.Need-add-part-start Inv-loop μ-loop
 add-part-start c =
@@ -34,7 +34,7 @@ loop-holds c =
     let s = c .before .before .before .before .before .before .before .before .before .before in
     let a = s .args in
     let o = around (a .right) (a .share) (a .tolerance) (now (a .samples)) (now (a .fronts)) (now (a .marks)) (now (a .combined)) (now (a .reference)) in
-    let v = own (now (a .table)) (now (a .texture)) (now (a .depths)) (now (a .limits)) in
+    let v = own (a .tear) (now (a .table)) (now (a .texture)) (now (a .depths)) (now (a .limits)) in
     let b = blockOf (a .column) (a .row) (a .width) (a .height) in
     (omega arith, block-none (a .w) o v b (now (a .candidate)))
 
@@ -58,7 +58,7 @@ add-old c =
     let a = s .args in
     let p = s .pre in
     let o = around (a .right) (a .share) (a .tolerance) (now (a .samples)) (now (a .fronts)) (now (a .marks)) (now (a .combined)) (now (a .reference)) in
-    let v = own (now (a .table)) (now (a .texture)) (now (a .depths)) (now (a .limits)) in
+    let v = own (a .tear) (now (a .table)) (now (a .texture)) (now (a .depths)) (now (a .limits)) in
     let b = blockOf (a .column) (a .row) (a .width) (a .height) in
     let i = c .before .before .before .before .loop in
     let t = c .before .before .before .loop-test .taken in
@@ -76,7 +76,7 @@ add-new c =
     let a = s .args in
     let p = s .pre in
     let o = around (a .right) (a .share) (a .tolerance) (now (a .samples)) (now (a .fronts)) (now (a .marks)) (now (a .combined)) (now (a .reference)) in
-    let v = own (now (a .table)) (now (a .texture)) (now (a .depths)) (now (a .limits)) in
+    let v = own (a .tear) (now (a .table)) (now (a .texture)) (now (a .depths)) (now (a .limits)) in
     let b = blockOf (a .column) (a .row) (a .width) (a .height) in
     let i = c .before .before .before .before .before .loop in
     let t = c .before .before .before .before .loop-test .taken in
@@ -94,7 +94,7 @@ loop-again c =
     let a = s .args in
     let p = s .pre in
     let o = around (a .right) (a .share) (a .tolerance) (now (a .samples)) (now (a .fronts)) (now (a .marks)) (now (a .combined)) (now (a .reference)) in
-    let v = own (now (a .table)) (now (a .texture)) (now (a .depths)) (now (a .limits)) in
+    let v = own (a .tear) (now (a .table)) (now (a .texture)) (now (a .depths)) (now (a .limits)) in
     let b = blockOf (a .column) (a .row) (a .width) (a .height) in
     let i = c .before .before .before .before .before .loop in
     let t = c .before .before .before .before .loop-test .taken in
@@ -111,7 +111,7 @@ returns c =
     let s = c .before .before .before .before .before .before .before .before .before .before .before .before in
     let a = s .args in
     let o = around (a .right) (a .share) (a .tolerance) (now (a .samples)) (now (a .fronts)) (now (a .marks)) (now (a .combined)) (now (a .reference)) in
-    let v = own (now (a .table)) (now (a .texture)) (now (a .depths)) (now (a .limits)) in
+    let v = own (a .tear) (now (a .table)) (now (a .texture)) (now (a .depths)) (now (a .limits)) in
     let b = blockOf (a .column) (a .row) (a .width) (a .height) in
     let i = c .before .loop in
     let e : i .i ≡ a .height = omega (arith, i .inv .0, c .loop-test .left) in

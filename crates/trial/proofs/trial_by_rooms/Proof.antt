@@ -18,12 +18,12 @@ use Rattle.trial.proofs.trial_by_rooms.Statement.{statement}
 use Rattle.trial.proofs.trial_by_rooms.Tie as tie
 
 abbrev Inv-loop : tie.InvT-loop
-Inv-loop right table share tolerance w h column row width height texture depths limits candidate bytes room₀ samples fronts marks combined reference most old₀ new₀ done₀ room old new done =
+Inv-loop tear right table share tolerance w h column row width height texture depths limits candidate bytes room₀ samples fronts marks combined reference most old₀ new₀ done₀ room old new done =
     (done ≤ height) × ((length room ≡ length room₀) × ((Started candidate room)
-    × BlockTrial w (around right share tolerance samples fronts marks combined reference) (own table texture depths limits) (blockOf column row width height) (filled (blockOf column row width height) candidate bytes) done old new))
+    × BlockTrial w (around right share tolerance samples fronts marks combined reference) (own tear table texture depths limits) (blockOf column row width height) (filled (blockOf column row width height) candidate bytes) done old new))
 
 abbrev μ-loop : tie.MeasureT-loop
-μ-loop right table share tolerance w h column row width height texture depths limits candidate bytes room₀ samples fronts marks combined reference most old₀ new₀ done₀ room old new done = height - done
+μ-loop tear right table share tolerance w h column row width height texture depths limits candidate bytes room₀ samples fronts marks combined reference most old₀ new₀ done₀ room old new done = height - done
 
 div-most : tie.Need-div-most Inv-loop μ-loop
 div-most c = let f = c .before .before .before .before .before .before .before .before .before .pre in omega (arith, f .1 .1 .0 .0 .some)
@@ -139,7 +139,7 @@ add-old c =
     let m : n * a .width ≤ length (l .room) = omega (arith, room-holds n (length (now (a .room))) (a .width) (c .before .before .before .before .before .before .before .fewer .ensures .1 .0), l .inv .1 .0, c .before .before .before .before .before .before .before .before .before .before .before .before .start .ensures .1) in
     let b = blockOf (a .column) (a .row) (a .width) (a .height) in
     let o = around (a .right) (a .share) (a .tolerance) (now (a .samples)) (now (a .fronts)) (now (a .marks)) (now (a .combined)) (now (a .reference)) in
-    let v = own (now (a .table)) (now (a .texture)) (now (a .depths)) (now (a .limits)) in
+    let v = own (a .tear) (now (a .table)) (now (a .texture)) (now (a .depths)) (now (a .limits)) in
     let more : l .done + n ≤ a .height = omega (arith, c .before .before .before .before .before .before .before .fewer .ensures .1 .1, c .before .before .before .before .before .before .before .before .loop-test .taken) in
     let next = block-made b (a .candidate) (now (a .bytes)) (l .room) (c .before .before .before .before .before .fill-rows .last .1 .1 .1 .1 .1 .0) (l .done) n more (s .pre .1 .1 .1 .0) m (c .before .before .before .before .before .fill-rows .ensures) (l .inv .1 .1 .1) (c .before .trial-block .ensures) in
     omega (arith, block-small (a .w) o v b (filled b (a .candidate) (now (a .bytes))) next (s .pre .1 .1 .0 .0) (s .pre .1 .0 .depths) more .0)
@@ -153,7 +153,7 @@ add-new c =
     let m : n * a .width ≤ length (l .room) = omega (arith, room-holds n (length (now (a .room))) (a .width) (c .before .before .before .before .before .before .before .before .fewer .ensures .1 .0), l .inv .1 .0, c .before .before .before .before .before .before .before .before .before .before .before .before .before .start .ensures .1) in
     let b = blockOf (a .column) (a .row) (a .width) (a .height) in
     let o = around (a .right) (a .share) (a .tolerance) (now (a .samples)) (now (a .fronts)) (now (a .marks)) (now (a .combined)) (now (a .reference)) in
-    let v = own (now (a .table)) (now (a .texture)) (now (a .depths)) (now (a .limits)) in
+    let v = own (a .tear) (now (a .table)) (now (a .texture)) (now (a .depths)) (now (a .limits)) in
     let more : l .done + n ≤ a .height = omega (arith, c .before .before .before .before .before .before .before .before .fewer .ensures .1 .1, c .before .before .before .before .before .before .before .before .before .loop-test .taken) in
     let next = block-made b (a .candidate) (now (a .bytes)) (l .room) (c .before .before .before .before .before .before .fill-rows .last .1 .1 .1 .1 .1 .0) (l .done) n more (s .pre .1 .1 .1 .0) m (c .before .before .before .before .before .before .fill-rows .ensures) (l .inv .1 .1 .1) (c .before .before .trial-block .ensures) in
     omega (arith, block-small (a .w) o v b (filled b (a .candidate) (now (a .bytes))) next (s .pre .1 .1 .0 .0) (s .pre .1 .0 .depths) more .1)
@@ -175,7 +175,7 @@ loop-again c =
     let m : n * a .width ≤ length (l .room) = omega (arith, room-holds n (length (now (a .room))) (a .width) (c .before .before .before .before .before .before .before .before .fewer .ensures .1 .0), l .inv .1 .0, c .before .before .before .before .before .before .before .before .before .before .before .before .before .start .ensures .1) in
     let b = blockOf (a .column) (a .row) (a .width) (a .height) in
     let o = around (a .right) (a .share) (a .tolerance) (now (a .samples)) (now (a .fronts)) (now (a .marks)) (now (a .combined)) (now (a .reference)) in
-    let v = own (now (a .table)) (now (a .texture)) (now (a .depths)) (now (a .limits)) in
+    let v = own (a .tear) (now (a .table)) (now (a .texture)) (now (a .depths)) (now (a .limits)) in
     let more : l .done + n ≤ a .height = omega (arith, c .before .before .before .before .before .before .before .before .fewer .ensures .1 .1, c .before .before .before .before .before .before .before .before .before .loop-test .taken) in
     let next = block-made b (a .candidate) (now (a .bytes)) (l .room) (c .before .before .before .before .before .before .fill-rows .last .1 .1 .1 .1 .1 .0) (l .done) n more (s .pre .1 .1 .1 .0) m (c .before .before .before .before .before .before .fill-rows .ensures) (l .inv .1 .1 .1) (c .before .before .trial-block .ensures) in
     let e = front-back (l .room) (c .before .before .before .before .before .before .fill-rows .last .1 .1 .1 .1 .1 .0) (n * a .width) m (c .before .before .before .before .before .before .fill-rows .ensures .size) in
@@ -191,7 +191,7 @@ returns c =
     let l = c .before .loop in
     let b = blockOf (a .column) (a .row) (a .width) (a .height) in
     let o = around (a .right) (a .share) (a .tolerance) (now (a .samples)) (now (a .fronts)) (now (a .marks)) (now (a .combined)) (now (a .reference)) in
-    let v = own (now (a .table)) (now (a .texture)) (now (a .depths)) (now (a .limits)) in
+    let v = own (a .tear) (now (a .table)) (now (a .texture)) (now (a .depths)) (now (a .limits)) in
     let e : l .done ≡ a .height = omega (arith, l .inv .0, c .loop-test .left) in
     subst (λ (n : ℕ). BlockTrial (a .w) o v b (filled b (a .candidate) (now (a .bytes))) n (l .old) (l .new)) e (l .inv .1 .1 .1)
 

@@ -37,9 +37,9 @@ measure-requires c κs =
     let a = s .args in
     let p = s .pre in
     let wide = length-seen (a .right) (splice (now (a .depths)) (a .column) (now (a .candidate))) ∙ length-splice (now (a .depths)) (a .column) (now (a .candidate)) (p .1 .1 .0 .1 .0) in
-    let k = c .before .before .before .before .before .before .before .before .before .before .draw-span .kept .1 .1 .1 .1 .1 .1 .1 .1 in
+    let k = c .before .before .before .before .before .before .before .before .before .before .draw-span .kept .1 .1 .1 .1 .1 .1 .1 .1 .1 in
     let n = k .0 in
-    let l = lineWith (a .right) (now (a .table)) (now (a .texture)) (now (a .depths)) (a .column) (now (a .candidate)) in
+    let l = lineWith (a .tear) (a .right) (now (a .table)) (now (a .texture)) (now (a .depths)) (a .column) (now (a .candidate)) in
     let inside = ahead-within (p .1 .1 .1 .0) .1 in (
       p .0,
       (
@@ -60,11 +60,11 @@ returns c =
     let a = s .args in
     let p = s .pre in
     let wide = length-seen (a .right) (splice (now (a .depths)) (a .column) (now (a .candidate))) ∙ length-splice (now (a .depths)) (a .column) (now (a .candidate)) (p .1 .1 .0 .1 .0) in
-    let k = c .before .before .before .before .before .before .before .before .before .before .before .draw-span .kept .1 .1 .1 .1 .1 .1 .1 .1 in
+    let k = c .before .before .before .before .before .before .before .before .before .before .before .draw-span .kept .1 .1 .1 .1 .1 .1 .1 .1 .1 in
     let drawn = c .before .before .before .before .before .before .before .before .before .before .before .draw-span .ensures in
     let n : ℕ = length (now (a .s)) in
     let o = around (a .right) (a .share) (a .tolerance) (now (a .samples)) (now (a .fronts)) (now (a .marks)) (now (a .combined)) (now (a .reference)) in
-    let l = lineWith (a .right) (now (a .table)) (now (a .texture)) (now (a .depths)) (a .column) (now (a .candidate)) in
+    let l = lineWith (a .tear) (a .right) (now (a .table)) (now (a .texture)) (now (a .depths)) (a .column) (now (a .candidate)) in
     let inside : a .start + n ≤ length (now (a .depths)) = omega (arith, wide, ahead-within (p .1 .1 .1 .0) .1) in
     let e : a .start + n - a .start ≡ n = omega arith in
     record {

@@ -70,10 +70,10 @@ trial-strips-requires c κs =
         p .1 .1 .0,
         (
           (
-            tried-ready (a .right) (now (a .table)) (now (a .texture)) (now (a .depths)) (now (a .candidate)) (a .first) _ (size .1 .0) part (p .0 .0) (p .1 .0 .1 .0 ∙ sym same) (size .0) (omega (arith, same, size .1 .1)),
+            tried-ready (a .tear) (a .right) (now (a .table)) (now (a .texture)) (now (a .depths)) (now (a .candidate)) (a .first) _ (size .1 .0) part (p .0 .0) (p .1 .0 .1 .0 ∙ sym same) (size .0) (omega (arith, same, size .1 .1)),
             (column, sym same),
           ),
-          first-ahead (a .right) (now (a .table)) (now (a .texture)) (now (a .depths)) (now (a .candidate)) (a .first) _ (size .1 .0) part (seen (a .right) (now (a .limits))) (q .result) (c .before .before .edge-of .result) (size .0) (e .0) (e .1 .0)
+          first-ahead (a .tear) (a .right) (now (a .table)) (now (a .texture)) (now (a .depths)) (now (a .candidate)) (a .first) _ (size .1 .0) part (seen (a .right) (now (a .limits))) (q .result) (c .before .before .edge-of .result) (size .0) (e .0) (e .1 .0)
               (e .1 .1 .0 ∙ c .before .before .before .before .at .ensures)
               (e .1 .1 .1 .0 ∙ c .before .before .before .at2 .ensures)
               (rw (e .1 .0, e .1 .1 .0) (e .1 .1 .1 .1 .0))
@@ -96,11 +96,11 @@ returns c =
     let part = rw width at (c .before .before .before .before .before .before .before .before .before .part-start .ensures .0) in
     let q = c .before .before .pair-of .ensures in
     let last : c .before .before .pair-of .result .column + 1 ≡ a .first + length (now (a .candidate)) = omega (arith, q .1 .0, size .0) in
-    let line = tried-line (a .right) (now (a .table)) (now (a .texture)) (now (a .depths)) (now (a .candidate)) (a .first) _ (size .1 .0) part in
+    let line = tried-line (a .tear) (a .right) (now (a .table)) (now (a .texture)) (now (a .depths)) (now (a .candidate)) (a .first) _ (size .1 .0) part in
     let high = c .before .before .before .before .before .before .limit-under .ensures ∙ ap (limitUnder (seen (a .right) (now (a .limits))) (a .first + length (now (a .candidate)))) (c .before .before .before .before .before .before .before .next-place .ensures) in
     let edge = c .before .before .before .edge-of in
     let held = subst (λ (h : ℕ). EdgeHeld (seen (a .right) (now (a .limits))) (a .first + length (now (a .candidate))) h (edge .result)) high (edge .ensures) in
-    row-trial (around (a .right) (a .share) (a .tolerance) (now (a .samples)) (now (a .fronts)) (now (a .marks)) (now (a .combined)) (now (a .reference))) (own (now (a .table)) (now (a .texture)) (now (a .depths)) (now (a .limits))) (now (a .candidate)) (a .first) (p .0 .0) (size .1 .0) (size .0) (omega (arith, same, size .1 .1)) (p .1 .0 .1 .1 ∙ sym same) (edge .result) held
+    row-trial (around (a .right) (a .share) (a .tolerance) (now (a .samples)) (now (a .fronts)) (now (a .marks)) (now (a .combined)) (now (a .reference))) (own (a .tear) (now (a .table)) (now (a .texture)) (now (a .depths)) (now (a .limits))) (now (a .candidate)) (a .first) (p .0 .0) (size .1 .0) (size .0) (omega (arith, same, size .1 .1)) (p .1 .0 .1 .1 ∙ sym same) (edge .result) held
     (c .before .before .before .before .before .before .before .before .span-start .result) (c .before .first-at .result) _ _
     (c .before .before .before .before .before .before .before .before .span-start .ensures)
     (c .before .first-at .ensures ∙ ap (λ (x : ℕ). firstAt x) high)

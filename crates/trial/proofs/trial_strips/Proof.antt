@@ -1,14 +1,12 @@
 -- `trial::trial_strips` meets its contract: the positions from `top` on are summed, and those below it can be drawn from the pair (proofs/Strips).
-use Prim.Native.Nat.{_+_, _-_, _≤_}
-use mathlib.Core.Path.{_≡_, sym, _∙_}
+use Prim.Native.Nat.{_+_, _-_}
+use mathlib.Core.Path.{_≡_, _∙_}
 use native.Mathlib.Omega.{arith}
 use denote.Ref.{now}
-use lib.ListN.{length}
-use borrow.Author.Needs.{needs}
 use Rattle.model.proofs.Views.{length-seen}
 use Rattle.planes.specs.Parts.{splice}
 use Rattle.planes.proofs.Splices.{length-splice}
-use Rattle.row.specs.Drawing.{lineWith, Ahead}
+use Rattle.row.specs.Drawing.{lineWith}
 use Rattle.row.proofs.Pass.{ahead-within}
 use Rattle.trial.specs.Trial.{around}
 use Rattle.trial.proofs.Strips.{Strips, strips-start, strips-next, strips-end}
@@ -16,11 +14,11 @@ use Rattle.trial.proofs.trial_strips.Statement.{statement}
 use Rattle.trial.proofs.trial_strips.Tie as tie
 
 abbrev Inv-loop : tie.InvT-loop
-Inv-loop right table squares share tolerance texture depths candidate column samples fronts marks combined reference start stop q₀ top₀ old₀ new₀ q top old new =
-    Strips (around right share tolerance samples fronts marks combined reference) (lineWith right table texture depths column candidate) q₀ start stop top q old new
+Inv-loop tear right table squares share tolerance texture depths candidate column samples fronts marks combined reference start stop q₀ top₀ old₀ new₀ q top old new =
+    Strips (around right share tolerance samples fronts marks combined reference) (lineWith tear right table texture depths column candidate) q₀ start stop top q old new
 
 abbrev μ-loop : tie.MeasureT-loop
-μ-loop right table squares share tolerance texture depths candidate column samples fronts marks combined reference start stop q₀ top₀ old₀ new₀ q top old new = top
+μ-loop tear right table squares share tolerance texture depths candidate column samples fronts marks combined reference start stop q₀ top₀ old₀ new₀ q top old new = top
 
 loop-holds : tie.Need-loop-holds Inv-loop μ-loop
 loop-holds c =

@@ -61,11 +61,24 @@ returns-6 : tie.Need-returns-6
 unfolding commonNumber
 returns-6 c =
     rw (
-      w-ok (c .before .before .before .before .before .before .before),
-      h-ok (c .before .before .before .before .before),
-      planes-ok (c .before .before .before),
-      tables-ok (c .before),
-      le-leb _ _ (c .if5 .left),
+      w-ok (c .before .before .before .before .before .before .before .before .before),
+      h-ok (c .before .before .before .before .before .before .before),
+      planes-ok (c .before .before .before .before .before),
+      tables-ok (c .before .before .before),
+      le-leb _ _ (c .before .before .if5 .left),
+      sym (c .before .tear-ok .ensures) ∙ not-true _ (c .if6 .taken),
+    )
+
+returns-7 : tie.Need-returns-7
+unfolding commonNumber
+returns-7 c =
+    rw (
+      w-ok (c .before .before .before .before .before .before .before .before .before),
+      h-ok (c .before .before .before .before .before .before .before),
+      planes-ok (c .before .before .before .before .before),
+      tables-ok (c .before .before .before),
+      le-leb _ _ (c .before .before .if5 .left),
+      sym (c .before .tear-ok .ensures) ∙ not-false _ (c .if6 .left),
     )
 
 pub common-spec : {M : Type 1} → statement M
@@ -81,4 +94,6 @@ common-spec =
     (λ c κs. search needs)
     returns-4
     returns-5
-    returns-6)
+    (λ c κs. search needs)
+    returns-6
+    returns-7)

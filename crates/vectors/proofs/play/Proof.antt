@@ -8,7 +8,7 @@ use Rattle.vectors.proofs.play.Statement.{statement}
 use Rattle.vectors.proofs.play.Tie as tie
 
 abbrev Inv-loop : tie.InvT-loop
-Inv-loop start end firstLeft firstRight firstReference left right reference leftDepths₀ rightDepths₀ leftSamples₀ leftFronts₀ leftLimits₀ leftMarks₀ rightSamples₀ rightFronts₀ rightLimits₀ rightMarks₀ combined₀ journal₀ now₀ i₀ leftDepths rightDepths leftSamples leftFronts leftLimits leftMarks rightSamples rightFronts rightLimits rightMarks combined journal now i =
+Inv-loop opens start end left right reference leftDepths₀ rightDepths₀ leftSamples₀ leftFronts₀ leftLimits₀ leftMarks₀ rightSamples₀ rightFronts₀ rightLimits₀ rightMarks₀ combined₀ journal₀ now₀ i₀ leftDepths rightDepths leftSamples leftFronts leftLimits leftMarks rightSamples rightFronts rightLimits rightMarks combined journal now i =
     (length leftDepths ≡ length leftDepths₀)
     × (length rightDepths ≡ length rightDepths₀)
     × (length leftSamples ≡ length leftSamples₀)
@@ -23,11 +23,11 @@ Inv-loop start end firstLeft firstRight firstReference left right reference left
     × (length journal ≡ length journal₀)
 
 abbrev μ-loop : tie.MeasureT-loop
-μ-loop start end firstLeft firstRight firstReference left right reference leftDepths₀ rightDepths₀ leftSamples₀ leftFronts₀ leftLimits₀ leftMarks₀ rightSamples₀ rightFronts₀ rightLimits₀ rightMarks₀ combined₀ journal₀ now₀ i₀ leftDepths rightDepths leftSamples leftFronts leftLimits leftMarks rightSamples rightFronts rightLimits rightMarks combined journal now i =
+μ-loop opens start end left right reference leftDepths₀ rightDepths₀ leftSamples₀ leftFronts₀ leftLimits₀ leftMarks₀ rightSamples₀ rightFronts₀ rightLimits₀ rightMarks₀ combined₀ journal₀ now₀ i₀ leftDepths rightDepths leftSamples leftFronts leftLimits leftMarks rightSamples rightFronts rightLimits rightMarks combined journal now i =
     end - i
 
 add-i : tie.Need-add-i Inv-loop μ-loop
-add-i c = omega (arith, c .before .before .before .before .before .before .before .before .before .before .before .before .before .before .before .before .before .before .before .before .before .before .before .before .before .before .before .before .before .before .before .before .before .before .before .before .loop-test .taken, c .before .before .before .before .before .before .before .before .before .before .before .before .before .before .before .before .before .before .before .before .before .before .before .before .before .before .before .before .before .before .before .before .before .before .before .before .before .before .before .before .before .before .before .before .before .before .before .before .before .before .before .before .before .before .before .before .before .before .before .before .before .before .before .before .before .before .before .before .before .before .before .before .before .before .before .before .before .before .before .before .before .before .before .before .before .fits)
+add-i c = omega (arith, c .before .before .before .before .before .before .before .before .before .before .before .before .before .before .before .before .before .before .before .before .before .before .before .before .before .before .before .before .before .before .before .before .before .before .before .before .loop-test .taken, c .before .before .before .before .before .before .before .before .before .before .before .before .before .before .before .before .before .before .before .before .before .before .before .before .before .before .before .before .before .before .before .before .before .before .before .before .before .before .before .before .before .before .before .before .before .before .before .before .before .before .before .before .before .before .before .before .before .before .before .before .before .before .before .before .before .before .before .before .before .before .before .before .before .before .before .before .before .before .before .before .before .before .fits)
 
 loop-less : tie.Need-loop-less Inv-loop μ-loop
 loop-less c = omega (arith, c .before .before .before .before .before .before .before .before .before .before .before .before .before .before .before .before .before .before .before .before .before .before .before .before .before .before .before .before .before .before .before .before .before .before .before .before .loop-test .taken)

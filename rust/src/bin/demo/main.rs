@@ -1,6 +1,7 @@
 //! A first session to look at. An encoder-like search improves two coarse depth maps: for each unit it tries a few hundred
-//! candidates with GET, sets its quarters one by one, and takes them back where one candidate for the whole unit is better. It
-//! prints a table and writes pictures.
+//! candidates with GET, sets its quarters one by one, and takes them back where one candidate for the whole unit is better. Then
+//! the seat moves from the left camera to the right one, over the depths that the search found. It prints two tables and writes
+//! pictures.
 
 mod encoder;
 mod pgm;
@@ -15,7 +16,8 @@ use std::process::ExitCode;
 const HELP: &str = "\
 usage: demo [--out FOLDER] [--disparity QUARTERS] [LEFT RIGHT REFERENCE LEFT-DEPTH RIGHT-DEPTH]
 
-Improves two depth maps block by block and writes PGM pictures of what became of it to FOLDER (target/demo).
+Improves two depth maps block by block, then moves the seat from the left camera to the right one, and writes PGM pictures of what
+became of it to FOLDER (target/demo).
 Without files it makes a scene of its own. With files, PGM pictures of one size; the first three have the same largest value, 1,023 at
 most, and the depth maps 255 at most:
 
@@ -23,7 +25,7 @@ most, and the depth maps 255 at most:
   REFERENCE                 what is to be seen from between them
   LEFT-DEPTH, RIGHT-DEPTH   the depth maps to begin with, larger is nearer
 
-QUARTERS is the shift of the nearest depth, 255, in quarter samples, 0 to 1,023 (96).
+QUARTERS is the shift of the nearest depth, 255, from either camera to the middle, in quarter samples, 0 to 1,023 (96).
 ";
 
 struct Options {
@@ -61,15 +63,31 @@ struct Input {
     /// What the samples of the pictures go up to.
     largest: u16,
     textures: [Vec<u16>; 2],
+    /// What is seen from the middle, and from the seats beside it where that is known.
     reference: Vec<u16>,
+    between: Option<[Vec<u16>; 2]>,
     depths: [Vec<u8>; 2],
 }
 
+impl Input {
+    /// What is seen from a seat: at a camera that camera's picture.
+    fn seen_from(&self, seat: i32) -> Option<&[u16]> {
+        match seat {
+            scene::LEFT => Some(&self.textures[0]),
+            scene::RIGHT => Some(&self.textures[1]),
+            scene::MIDDLE => Some(&self.reference),
+            _ => self.between.as_ref().map(|pictures| &pictures[usize::from(seat > scene::MIDDLE)][..]),
+        }
+    }
+}
+
 fn made(disparity: u16) -> Input {
-    let scene = scene::made(320, 192, &scene::table(disparity));
+    let table = scene::table(disparity);
+    let scene = scene::made(320, 192, &table);
     let depths = scene.depths.each_ref().map(|depths| scene::coarse(depths, scene.w, scene.h, 16));
     let scene::Scene { w, h, textures, reference, .. } = scene;
-    Input { name: "a made scene", w, h, largest: GREATEST_SAMPLE, textures, reference, depths }
+    let between = Some([-1, 1].map(|side| scene::seen_from(w, h, &table, scene::MIDDLE + side)));
+    Input { name: "a made scene", w, h, largest: GREATEST_SAMPLE, textures, reference, between, depths }
 }
 
 fn read(files: &[PathBuf]) -> Result<Input, String> {
@@ -92,7 +110,8 @@ fn read(files: &[PathBuf]) -> Result<Input, String> {
     let depths = [depths(&files[3], &pictures[3])?, depths(&files[4], &pictures[4])?];
     let mut planes = pictures.into_iter().map(|picture| picture.samples);
     let mut next = || planes.next().expect("there are five files");
-    Ok(Input { name: "pictures from files", w, h, largest, textures: [next(), next()], reference: next(), depths })
+    let (textures, reference) = ([next(), next()], next());
+    Ok(Input { name: "pictures from files", w, h, largest, textures, reference, between: None, depths })
 }
 
 /// The depths of a depth map.
@@ -124,34 +143,86 @@ fn run(options: &Options) -> Result<(), String> {
     let input = if options.files.is_empty() { made(options.disparity) } else { read(&options.files)? };
     std::fs::create_dir_all(&options.out).map_err(|error| format!("{} cannot be made: {error}", options.out.display()))?;
     let table = scene::table(options.disparity);
-    let settings = Settings { w: input.w as u32, h: input.h as u32, left: table, right: table, share: 32, tolerance: 16, total: 0 };
+    let (w, h, widest_gap, torn_distance) = (input.w as u32, input.h as u32, 8, 1);
+    let settings = Settings { w, h, left: table, right: table, share: 32, tolerance: 16, widest_gap, torn_distance, total: 0 };
     let pictures = Pictures { textures: [&input.textures[0], &input.textures[1]], reference: &input.reference };
     let depths = [&input.depths[0][..], &input.depths[1][..]];
     let mut session = Session::open(&settings, &pictures, depths).map_err(|refusal| refusal.to_string())?;
 
     println!("Luphwezane: {}, {} × {}, units of {} × {}", input.name, input.w, input.h, encoder::SIDE, encoder::SIDE);
     println!();
+    search(&mut session, &options.out, input.largest)?;
+    println!();
+    show_seats(&mut session, &input, &table, &options.out)?;
+    let what = "combined, holes, errors and depths, each before and after, and the view from each seat";
+    println!("pictures in {}: {what}", options.out.display());
+    Ok(())
+}
+
+/// Improves the depths, and prints the table of it.
+fn search(session: &mut Session, out: &Path, largest: u16) -> Result<(), String> {
     print_line(["step", "trials", "one value", "line", "mask", "quarters", "backed out", "change of total", "total", "PSNR"]);
-    let largest = input.largest;
-    print_line(["open", "", "", "", "", "", "", "", &thousands(session.total() as i64), &psnr(&session, largest)]);
-    write_inputs(&options.out, &session, largest)?;
-    write_outputs(&options.out, "before", &session, largest)?;
+    print_line(["open", "", "", "", "", "", "", "", &thousands(session.total() as i64), &psnr(session, largest)]);
+    write_inputs(out, session, largest)?;
+    write_outputs(out, "before", session, largest)?;
     for round in 1..=2 {
         for view in View::BOTH {
-            improve(&mut session, view, largest, round)?;
+            improve(session, view, largest, round)?;
         }
     }
-    write_outputs(&options.out, "after", &session, largest)?;
-
-    let report = session.check();
+    write_outputs(out, "after", session, largest)?;
     println!();
-    println!("check   {}", if report == Report::Sound { "sound".into() } else { format!("{report:?}") });
+    print_check(session)?;
     println!("holes   left {}, right {}", thousands(session.holes(View::Left) as i64), thousands(session.holes(View::Right) as i64));
-    println!("pictures in {}: combined, holes, errors and depths, each before and after", options.out.display());
+    Ok(())
+}
+
+/// Moves from seat to seat over the depths as they stand, and prints the table of it.
+fn show_seats(session: &mut Session, input: &Input, table: &[u16; 256], out: &Path) -> Result<(), String> {
+    print_seat(["seat", "share", "left shift", "right shift", "left holes", "right holes", "total", "PSNR"]);
+    for seat in scene::SEATS {
+        if show_from(session, input, table, seat) {
+            write(out, &format!("seat-{seat}"), session, input.largest, session.planes().combined)?;
+        }
+    }
+    println!();
+    print_check(session)
+}
+
+/// What CHECK says; an error where that is not "sound".
+fn print_check(session: &Session) -> Result<(), String> {
+    let report = session.check();
+    println!("check   {}", if report == Report::Sound { "sound".into() } else { format!("{report:?}") });
     match report {
         Report::Sound => Ok(()),
         _ => Err("the session is not sound".into()),
     }
+}
+
+/// Moves to a seat, and prints its line of the table; tables and share follow the seat. Where nobody has seen what is seen from
+/// there, nothing can be measured. Answers whether the session is there: where the cameras are so far apart that a table is
+/// refused, it stays where it was.
+fn show_from(session: &mut Session, input: &Input, table: &[u16; 256], seat: i32) -> bool {
+    let [left, right] = scene::tables(table, seat);
+    let to = Settings { left, right, share: 16 * seat as u8, ..*session.settings() };
+    let (seen, name) = (input.seen_from(seat), format!("{seat}{}", scene::place(seat)));
+    if let Err(refusal) = session.move_seat(&to, seen.unwrap_or(&input.reference)) {
+        println!("{name:<15} {refusal}");
+        return false;
+    }
+    let [total, psnr] = match seen {
+        Some(_) => [thousands(session.total() as i64), psnr(session, input.largest)],
+        None => ["not known".into(), String::new()],
+    };
+    let [left, right] = [left[255], right[255]].map(|quarters| thousands(quarters.into()));
+    let [left_holes, right_holes] = View::BOTH.map(|view| thousands(session.holes(view) as i64));
+    print_seat([&name, &to.share.to_string(), &left, &right, &left_holes, &right_holes, &total, &psnr]);
+    true
+}
+
+/// A line of the seats' table; the shifts are those of the nearest depth, in quarters.
+fn print_seat([seat, share, left, right, left_holes, right_holes, total, psnr]: [&str; 8]) {
+    println!("{seat:<15} {share:>5}   {left:>10}   {right:>11}   {left_holes:>10}   {right_holes:>11}   {total:>13}   {psnr:>8}");
 }
 
 /// One pass over a view, and its line of the table.
@@ -262,4 +333,37 @@ fn holes(session: &Session, view: View) -> Vec<u16> {
 fn write(out: &Path, name: &str, session: &Session, largest: u16, samples: &[u16]) -> Result<(), String> {
     let Settings { w, h, .. } = *session.settings();
     pgm::write(&out.join(format!("{name}.pgm")), w as usize, h as usize, largest, samples)
+}
+
+#[cfg(test)]
+mod tests {
+    use super::*;
+
+    /// With the scene's own depths every seat shows what is seen from there, but for columns at the edges of things, and nothing
+    /// like what is seen from the others.
+    #[test]
+    fn true_depths_show_every_seat() {
+        let (table, (w, h)) = (scene::table(96), (320, 192));
+        let scene::Scene { textures, reference, depths, .. } = scene::made(w, h, &table);
+        let (widest_gap, torn_distance) = (8, 1);
+        let settings =
+            Settings { w: 320, h: 192, left: table, right: table, share: 32, tolerance: 16, widest_gap, torn_distance, total: 0 };
+        let pictures = Pictures { textures: [&textures[0], &textures[1]], reference: &reference };
+        let mut session = Session::open(&settings, &pictures, [&depths[0], &depths[1]]).expect("OPEN accepts it");
+        let middle = session.total();
+        for seat in scene::SEATS {
+            let [left, right] = scene::tables(&table, seat);
+            let to = Settings { left, right, share: 16 * seat as u8, ..settings };
+            let totals = scene::SEATS.map(|other| {
+                session.move_seat(&to, &scene::seen_from(w, h, &table, other)).expect("MOVE accepts it");
+                session.total()
+            });
+            let own = totals[seat as usize];
+            assert!(own < 10 * middle, "seat {seat}: {own}, and {middle} in the middle");
+            assert!(totals.iter().all(|&total| total == own || total > 10 * own), "seat {seat}: {totals:?}");
+        }
+        assert_eq!(scene::tables(&table, scene::MIDDLE), [table; 2]);
+        assert_eq!(scene::tables(&table, scene::LEFT)[0], [0; 256]);
+        assert_eq!(scene::tables(&table, scene::RIGHT)[1], [0; 256]);
+    }
 }

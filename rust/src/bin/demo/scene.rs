@@ -1,6 +1,12 @@
 //! A made scene: a wall and a floor with a ball, a box, a pole and a sign in front of them, seen by two cameras and from
-//! the place between them, in samples of ten bits. All numbers are whole, so that it is the same everywhere.
+//! seats between them, in samples of ten bits. All numbers are whole, so that it is the same everywhere.
 #![allow(dead_code)] // each program uses its own part
+
+/// The seats from which the scene is seen, from the left camera to the right one.
+pub const SEATS: [i32; 5] = [0, 1, 2, 3, 4];
+pub const LEFT: i32 = 0;
+pub const MIDDLE: i32 = 2;
+pub const RIGHT: i32 = 4;
 
 /// Two textures with their depths, and what is seen from between.
 pub struct Scene {
@@ -16,15 +22,45 @@ pub fn table(largest: u16) -> [u16; 256] {
     std::array::from_fn(|d| (d as u32 * u32::from(largest) / 255) as u16)
 }
 
+/// What a seat is called besides its number.
+pub fn place(seat: i32) -> &'static str {
+    match seat {
+        LEFT => ", left camera",
+        MIDDLE => ", middle",
+        RIGHT => ", right camera",
+        _ => "",
+    }
+}
+
+/// How far a seat shows each depth left of where the middle shows it, in quarters: as far as the table says at the right camera,
+/// as far to the right at the left one.
+fn shift(table: &[u16; 256], seat: i32) -> [i32; 256] {
+    table.map(|quarters| (seat - MIDDLE) * i32::from(quarters) / 2)
+}
+
+/// The tables of both views for a seat, where `table` is that of the middle: what one camera's picture is shifted more, the
+/// other's is shifted less.
+pub fn tables(table: &[u16; 256], seat: i32) -> [[u16; 256]; 2] {
+    let shift = shift(table, seat);
+    [1, -1].map(|side| std::array::from_fn(|d| (i32::from(table[d]) + side * shift[d]) as u16))
+}
+
 /// The scene at w × h for these disparities.
 pub fn made(w: usize, h: usize, table: &[u16; 256]) -> Scene {
-    let stage = Stage { w: w as i32, h: h as i32, table };
-    let draw = |side: i32, seed: u32| -> (Vec<u16>, Vec<u8>) {
-        let places = (0..h as i32).flat_map(|y| (0..w as i32).map(move |x| (x, y)));
-        places.map(|(x, y)| stage.seen(side, seed, x, y)).unzip()
-    };
-    let ((left, left_depths), (right, right_depths), (reference, _)) = (draw(-1, 1), draw(1, 2), draw(0, 3));
-    Scene { w, h, textures: [left, right], reference, depths: [left_depths, right_depths] }
+    let ((left, left_depths), (right, right_depths)) = (drawn(w, h, table, LEFT, 1), drawn(w, h, table, RIGHT, 2));
+    Scene { w, h, textures: [left, right], reference: seen_from(w, h, table, MIDDLE), depths: [left_depths, right_depths] }
+}
+
+/// What a further camera would see from a seat.
+pub fn seen_from(w: usize, h: usize, table: &[u16; 256], seat: i32) -> Vec<u16> {
+    drawn(w, h, table, seat, 3).0
+}
+
+/// The picture of a camera at a seat, with a grain of its own, and the depths.
+fn drawn(w: usize, h: usize, table: &[u16; 256], seat: i32, seed: u32) -> (Vec<u16>, Vec<u8>) {
+    let stage = Stage { w: w as i32, h: h as i32, shift: shift(table, seat) };
+    let places = (0..h as i32).flat_map(|y| (0..w as i32).map(move |x| (x, y)));
+    places.map(|(x, y)| stage.seen(seed, x, y)).unzip()
 }
 
 /// Depths at a coarse resolution: the nearest of each block.
@@ -40,10 +76,10 @@ pub fn coarse(depths: &[u8], w: usize, h: usize, side: usize) -> Vec<u8> {
     plane
 }
 
-struct Stage<'a> {
+struct Stage {
     w: i32,
     h: i32,
-    table: &'a [u16; 256],
+    shift: [i32; 256],
 }
 
 /// Things from near to far. Their outlines are on a stage of 320 × 192.
@@ -58,12 +94,12 @@ enum Thing {
 
 const THINGS: [Thing; 5] = [Thing::Pole, Thing::Ball, Thing::Box, Thing::Sign, Thing::Ground];
 
-impl Stage<'_> {
-    /// Sample and depth at column x of row y: side −1 is the left camera, 1 the right, 0 the place between.
-    fn seen(&self, side: i32, seed: u32, x: i32, y: i32) -> (u16, u8) {
+impl Stage {
+    /// Sample and depth at column x of row y.
+    fn seen(&self, seed: u32, x: i32, y: i32) -> (u16, u8) {
         for thing in THINGS {
             let depth = self.depth(thing, y);
-            let quarters = 4 * x + side * i32::from(self.table[usize::from(depth)]);
+            let quarters = 4 * x + self.shift[usize::from(depth)];
             if self.covers(thing, quarters, y) {
                 let grain = (hash(x, y, seed) % 17) as i32 - 8;
                 return ((self.sample(thing, quarters, y) + grain).clamp(0, 1023) as u16, depth);

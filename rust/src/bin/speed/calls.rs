@@ -21,17 +21,19 @@ pub enum Call {
     Set(usize),
     Back(usize),
     Open,
+    Move,
     Render,
 }
 
 /// The calls that are counted by position.
-pub const BY_POSITION: [(&str, Call); 7] = [
+pub const BY_POSITION: [(&str, Call); 8] = [
     ("GET at 4 × 4", Call::Get(4)),
     ("GET at 8 × 8", Call::Get(8)),
     ("GET at 64 × 64", Call::Get(64)),
     ("SET at 8 × 8", Call::Set(8)),
     ("SET and TAKE BACK at 8 × 8", Call::Back(8)),
     ("OPEN", Call::Open),
+    ("MOVE", Call::Move),
     ("RENDER", Call::Render),
 ];
 
@@ -81,7 +83,7 @@ pub fn trials(stage: &Stage, call: Call) -> usize {
     full + shapes(stage, call).iter().map(|shapes| shapes.shapes.len()).sum::<usize>()
 }
 
-/// How many positions rounds of a call draw: those of the spans, of the picture for OPEN, of every row for RENDER.
+/// How many positions rounds of a call draw: those of the spans, of the picture for OPEN and MOVE, of every row for RENDER.
 pub fn positions(stage: &Stage, call: Call, rounds: usize) -> usize {
     let picture = stage.scene.w * stage.scene.h;
     let mut span = Span::open(&stage.settings, &stage.scene);
@@ -98,7 +100,7 @@ pub fn positions(stage: &Stage, call: Call, rounds: usize) -> usize {
         count
     };
     match call {
-        Call::Open => rounds * picture,
+        Call::Open | Call::Move => rounds * picture,
         Call::Render => rounds * 2 * picture,
         Call::Of(..) | Call::Same(..) => {
             rounds * each_shape(&shapes(stage, call), |view, block, shape| drawn(view, block, &shape.depths)) as usize
@@ -113,7 +115,7 @@ fn blocks(stage: &Stage, call: Call) -> Vec<Trials> {
         Call::Get(64) => (64, 4, 2),
         Call::Get(side) | Call::Set(side) | Call::Back(side) => (side, 400 / side, 4),
         Call::Refused => (1, 400, 4),
-        Call::Open | Call::Render | Call::Of(..) | Call::Same(..) => return Vec::new(),
+        Call::Open | Call::Move | Call::Render | Call::Of(..) | Call::Same(..) => return Vec::new(),
     };
     let random = &mut Random(1);
     let mut blocks: Vec<Trials> = (0..count).map(|_| stage.trials(side, candidates, 12, random)).collect();
@@ -154,9 +156,9 @@ fn each(blocks: &[Trials], mut call: impl FnMut(View, Block, &[u8]) -> i64) -> i
 }
 
 fn sum(mut program: impl Program, call: Call, stage: &Stage, rounds: usize) -> i64 {
-    let (blocks, shapes) = (blocks(stage, call), shapes(stage, call));
+    let (blocks, shapes, seats) = (blocks(stage, call), shapes(stage, call), stage.seats());
     let mut sum = 0;
-    for _ in 0..rounds {
+    for round in 0..rounds {
         sum += match call {
             Call::Of(..) => each_shape(&shapes, |view, block, shape| program.get_of(view, block, shape)),
             Call::Same(..) => each_shape(&shapes, |view, block, shape| program.get(view, block, &shape.depths)),
@@ -164,6 +166,10 @@ fn sum(mut program: impl Program, call: Call, stage: &Stage, rounds: usize) -> i
             Call::Set(_) => each(&blocks, |view, block, candidate| program.set(view, block, candidate)),
             Call::Back(_) => each(&blocks, |view, block, candidate| program.back(view, block, candidate)),
             Call::Open => black_box(program.open()),
+            Call::Move => {
+                let (to, reference) = &seats[round % seats.len()];
+                black_box(program.move_seat(to, reference))
+            }
             Call::Render => rows(stage.scene.h, |view, y| program.render(view, y)),
         };
     }
@@ -181,7 +187,7 @@ fn rows(h: usize, mut call: impl FnMut(View, usize) -> i64) -> i64 {
     sum
 }
 
-/// A program that makes the calls. OPEN answers the total, RENDER the row's first sample.
+/// A program that makes the calls. OPEN and MOVE answer the total, RENDER the row's first sample.
 trait Program {
     fn get(&mut self, view: View, block: Block, candidate: &[u8]) -> i64;
 
@@ -195,10 +201,11 @@ trait Program {
     /// A SET, and the depths that were there again; the second change.
     fn back(&mut self, view: View, block: Block, candidate: &[u8]) -> i64;
     fn open(&mut self) -> i64;
+    fn move_seat(&mut self, to: &Settings, reference: &[u16]) -> i64;
     fn render(&mut self, view: View, y: usize) -> i64;
 }
 
-/// The library: a session for GET, SET and TAKE BACK; planes and a row of its own for OPEN and RENDER, which are lent them.
+/// The library: a session for GET, SET, TAKE BACK and MOVE; planes and a row of its own for OPEN and RENDER, which are lent them.
 struct Library {
     session: Session,
     settings: Settings,
@@ -244,6 +251,11 @@ impl Program for Library {
         self.settings.total as i64
     }
 
+    fn move_seat(&mut self, to: &Settings, reference: &[u16]) -> i64 {
+        self.session.move_seat(to, reference).expect("MOVE accepts it");
+        self.session.total() as i64
+    }
+
     fn render(&mut self, view: View, y: usize) -> i64 {
         let (part, Row { samples, marks, fronts }) = (y * self.held.w..(y + 1) * self.held.w, &mut self.row);
         let (texture, depths) = (&self.held.textures[view as usize][part.clone()], &self.held.depths[view as usize][part]);
@@ -272,6 +284,11 @@ impl Program for Span {
         self.held.total as i64
     }
 
+    fn move_seat(&mut self, to: &Settings, reference: &[u16]) -> i64 {
+        Span::move_seat(self, to, reference);
+        self.held.total as i64
+    }
+
     fn render(&mut self, view: View, y: usize) -> i64 {
         Span::render(self, view as usize, y);
         i64::from(self.held.samples[view as usize][y * self.held.w])
@@ -295,6 +312,11 @@ impl Program for Redraw {
 
     fn open(&mut self) -> i64 {
         self.draw_all();
+        self.held.total as i64
+    }
+
+    fn move_seat(&mut self, to: &Settings, reference: &[u16]) -> i64 {
+        Redraw::move_seat(self, to, reference);
         self.held.total as i64
     }
 

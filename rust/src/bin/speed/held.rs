@@ -24,6 +24,7 @@ pub struct Held {
     pub tables: [[u16; 256]; 2],
     pub share: u32,
     pub tolerance: u32,
+    pub gaps: Gaps,
     pub textures: [Vec<u16>; 2],
     pub reference: Vec<u16>,
     pub depths: [Vec<u8>; 2],
@@ -33,6 +34,19 @@ pub struct Held {
     pub marks: [Vec<u8>; 2],
     pub combined: Vec<u16>,
     pub total: u64,
+}
+
+/// The widest gap of a smooth pair and how far a column is shown into a hole, in quarters.
+#[derive(Clone, Copy, PartialEq)]
+pub struct Gaps {
+    widest: i32,
+    distance: i32,
+}
+
+impl Gaps {
+    fn new(settings: &Settings) -> Gaps {
+        Gaps { widest: i32::from(settings.widest_gap), distance: i32::from(settings.torn_distance) }
+    }
 }
 
 impl Held {
@@ -45,6 +59,7 @@ impl Held {
             tables: [settings.left, settings.right],
             share: u32::from(settings.share),
             tolerance: u32::from(settings.tolerance),
+            gaps: Gaps::new(settings),
             textures: scene.textures.clone(),
             reference: scene.reference.clone(),
             depths: scene.depths.clone(),
@@ -55,6 +70,13 @@ impl Held {
             combined: vec![0; w * h],
             total: 0,
         }
+    }
+
+    /// Takes what a MOVE brings; the planes stay.
+    pub fn move_to(&mut self, to: &Settings, reference: &[u16]) {
+        self.tables = [to.left, to.right];
+        (self.share, self.tolerance, self.gaps) = (u32::from(to.share), u32::from(to.tolerance), Gaps::new(to));
+        self.reference.copy_from_slice(reference);
     }
 
     pub fn is_same(&self, planes: &Planes, total: u64) -> bool {
@@ -123,6 +145,7 @@ pub struct Pair<'a, const RIGHT: bool> {
     pub window: &'a Window,
     pub depths: [u8; 2],
     pub gap: i32,
+    pub gaps: Gaps,
     pub last: bool,
 }
 
@@ -130,12 +153,12 @@ impl<const RIGHT: bool> Pair<'_, RIGHT> {
     /// What the pair shows t quarters from its place.
     #[inline(always)]
     pub fn pixel(&self, t: i32) -> Pixel {
-        if !self.last && self.gap <= 8 {
+        if !self.last && self.gap <= self.gaps.widest {
             let (t, gap) = (t as u32, self.gap as u32);
             let k = (8 * t + gap) / (2 * gap);
             return Pixel { sample: filtered::<RIGHT>(self.window, k as usize), hole: false, front: u32::from(self.depths[0]) };
         }
-        let far = t > 1;
+        let far = t > self.gaps.distance;
         Pixel { sample: read(self.window[if far == RIGHT { 3 } else { 4 }]), hole: far, front: u32::from(self.depths[usize::from(far)]) }
     }
 }

@@ -62,7 +62,7 @@ fn times(effort: &Effort) {
     let [at_4, at_8, at_64] = get_and_set(&stage, effort);
     by_kind(&stage, effort);
     journals::print(&stage, effort);
-    let open = open(&stage, effort);
+    let open = open_and_move(&stage, effort);
     let wide = widths(effort);
     disparities(effort);
     let holes = holes(effort);
@@ -93,7 +93,16 @@ impl Stage {
     fn of(scene: Scene, largest: u16) -> Stage {
         let table = scene::table(largest);
         let (w, h) = (scene.w as u32, scene.h as u32);
-        Stage { settings: Settings { w, h, left: table, right: table, share: 32, tolerance: 16, total: 0 }, scene }
+        let (share, tolerance, widest_gap, torn_distance) = (32, 16, 8, 1);
+        Stage { settings: Settings { w, h, left: table, right: table, share, tolerance, widest_gap, torn_distance, total: 0 }, scene }
+    }
+
+    /// Two seats beside the middle, with other numbers of gaps each, and what is seen from the nearer camera.
+    fn seats(&self) -> [(Settings, &[u16]); 2] {
+        [(1, 16, 10, 0, 0), (3, 48, 12, 2, 1)].map(|(seat, share, widest_gap, torn_distance, camera): (i32, u8, u8, u8, usize)| {
+            let [left, right] = scene::tables(&self.settings.left, seat);
+            (Settings { left, right, share, widest_gap, torn_distance, ..self.settings }, &self.scene.textures[camera][..])
+        })
     }
 
     /// The same picture several times side by side.
@@ -261,6 +270,35 @@ fn by_kind(stage: &Stage, effort: &Effort) {
     println!();
 }
 
+/// OPEN and MOVE; answers OPEN's ratios. Each program makes its planes in OPEN and has them in MOVE, which is the drawing alone.
+fn open_and_move(stage: &Stage, effort: &Effort) -> [f64; 2] {
+    println!("| 1,024 × 768 | the library / full drawing | the library / span renderer |");
+    println!("|---|---|---|");
+    let ratios = open(stage, effort);
+    for (name, ratios) in [("OPEN", ratios), ("MOVE", moved(stage, effort))] {
+        println!("| {name} | {:.2} | {:.2} |", ratios[0], ratios[1]);
+    }
+    println!();
+    ratios
+}
+
+/// MOVE's ratios.
+fn moved(stage: &Stage, effort: &Effort) -> [f64; 2] {
+    let (mut session, mut span) = (stage.session(), Span::open(&stage.settings, &stage.scene));
+    let mut redraw = Redraw::open(&stage.settings, &stage.scene);
+    let mut times = Vec::new();
+    for (to, reference) in (0..effort.rounds).flat_map(|_| stage.seats()) {
+        let (library, answer) = timed(|| session.move_seat(&to, reference));
+        answer.expect("MOVE accepts it");
+        let (rows, ()) = timed(|| redraw.move_seat(&to, reference));
+        let (spans, ()) = timed(|| span.move_seat(&to, reference));
+        let (planes, total) = (session.planes(), session.total());
+        assert!(span.held.is_same(&planes, total) && redraw.held.is_same(&planes, total), "the three move alike");
+        times.push([library, rows, spans]);
+    }
+    ratios(&times)
+}
+
 /// OPEN's ratios.
 fn open(stage: &Stage, effort: &Effort) -> [f64; 2] {
     let mut times = Vec::new();
@@ -272,11 +310,7 @@ fn open(stage: &Stage, effort: &Effort) -> [f64; 2] {
         assert!(span.held.is_same(&planes, total) && redraw.held.is_same(&planes, total), "the three open alike");
         times.push([library, rows, spans]);
     }
-    let ratios = ratios(&times);
-    println!("| 1,024 × 768 | OPEN / full drawing | OPEN / span renderer |");
-    println!("|---|---|---|");
-    println!("| whole picture | {:.2} | {:.2} |\n", ratios[0], ratios[1]);
-    ratios
+    ratios(&times)
 }
 
 /// HOLES of a picture whose rows are whole words, and of one whose rows have a tail.

@@ -1,7 +1,7 @@
 //! A program that redraws the block's rows completely for every trial. It keeps each row's error, so that a trial draws
 //! one view's row, combines it with the other view's and adds up.
 
-use crate::held::{combine, near_edge, position, read, seen, square, window, Held, Pair, Pixel};
+use crate::held::{combine, near_edge, position, read, seen, square, window, Gaps, Held, Pair, Pixel};
 use crate::scene::Scene;
 use luphwezane::{Block, Settings};
 
@@ -38,6 +38,11 @@ impl Redraw {
             self.held.combined[y * w..(y + 1) * w].copy_from_slice(&self.row.combined);
         }
         self.held.total = self.errors.iter().sum();
+    }
+
+    pub fn move_seat(&mut self, to: &Settings, reference: &[u16]) {
+        self.held.move_to(to, reference);
+        self.draw_all();
     }
 
     /// Draws row y of a view into its planes.
@@ -79,8 +84,8 @@ impl Redraw {
         }
         let (table, texture) = (&self.held.tables[view], &self.held.textures[view][y * w..(y + 1) * w]);
         match view {
-            0 => draw_row::<false>(table, texture, &mut self.row),
-            _ => draw_row::<true>(table, texture, &mut self.row),
+            0 => draw_row::<false>(table, self.held.gaps, texture, &mut self.row),
+            _ => draw_row::<true>(table, self.held.gaps, texture, &mut self.row),
         }
     }
 
@@ -116,7 +121,7 @@ impl Redraw {
 }
 
 /// Draws a whole row from the right, column by column. `front` is the entry of the greatest column placed at the limit.
-fn draw_row<const RIGHT: bool>(table: &[u16; 256], texture: &[u16], row: &mut Row) {
+fn draw_row<const RIGHT: bool>(table: &[u16; 256], gaps: Gaps, texture: &[u16], row: &mut Row) {
     let w = texture.len();
     let (mut top, mut limit, mut front) = (w, i32::MAX, 0);
     let (mut next, mut ends) = (None, [0; 8]);
@@ -128,7 +133,7 @@ fn draw_row<const RIGHT: bool>(table: &[u16; 256], texture: &[u16], row: &mut Ro
         if from < top {
             let (far_depth, far_place) = next.unwrap_or((depth, 0));
             let window = window::<RIGHT>(texture, at, &mut ends);
-            let pair = Pair::<RIGHT> { window, depths: [depth, far_depth], gap: far_place - place, last: next.is_none() };
+            let pair = Pair::<RIGHT> { window, depths: [depth, far_depth], gap: far_place - place, gaps, last: next.is_none() };
             for p in from..top {
                 row.pixels[seen::<RIGHT>(w, p)] = pair.pixel(4 * p as i32 - place);
             }

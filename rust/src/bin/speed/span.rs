@@ -72,6 +72,11 @@ impl Span {
         }
     }
 
+    pub fn move_seat(&mut self, to: &Settings, reference: &[u16]) {
+        self.held.move_to(to, reference);
+        self.draw_all();
+    }
+
     /// Combines row y of both views as they are held and answers the row's error.
     fn combine_row(&mut self, y: usize) -> u32 {
         let held = &mut self.held;
@@ -198,7 +203,8 @@ impl Span {
                 if from < top {
                     let (far_depth, far_place) = next.unwrap_or((depth, 0));
                     let window = window::<RIGHT>(texture, at, &mut ends);
-                    let pair = Pair::<RIGHT> { window, depths: [depth, far_depth], gap: far_place - here, last: next.is_none() };
+                    let pair =
+                        Pair::<RIGHT> { window, depths: [depth, far_depth], gap: far_place - here, gaps: held.gaps, last: next.is_none() };
                     if near_edge(limit, far_place) {
                         top -= 1;
                         let near = if front < w { front } else { front_column::<RIGHT>(limits, edit.end) };
@@ -265,7 +271,8 @@ impl Span {
                 if from < top {
                     let (far_depth, far_place) = next.unwrap_or((depth, 0));
                     let window = window::<RIGHT>(texture, at, &mut ends);
-                    let pair = Pair::<RIGHT> { window, depths: [depth, far_depth], gap: far_place - place, last: next.is_none() };
+                    let pair =
+                        Pair::<RIGHT> { window, depths: [depth, far_depth], gap: far_place - place, gaps: held.gaps, last: next.is_none() };
                     if near_edge(limit, far_place) {
                         top -= 1;
                         let at = seen::<RIGHT>(w, top);

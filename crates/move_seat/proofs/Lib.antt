@@ -1,0 +1,2 @@
+-- Why MOVE keeps its promise.
+pub mod Moving
