@@ -255,7 +255,7 @@ typedef struct luph_private_shape {
 #define LUPH_RAW_IN_LIMITS(name) const int16_t *name, size_t name##_len
 #define LUPH_RAW_OUT_LIMITS(name) int16_t *name, size_t name##_len
 #define LUPH_RAW_JOURNAL uint32_t *journal, size_t journal_len
-#define LUPH_RAW_PICTURES LUPH_RAW_IN_SAMPLES(left_texture), LUPH_RAW_IN_SAMPLES(right_texture), LUPH_RAW_IN_SAMPLES(reference)
+#define LUPH_RAW_PICTURES LUPH_RAW_IN_SAMPLES(left), LUPH_RAW_IN_SAMPLES(right), LUPH_RAW_IN_SAMPLES(reference)
 #define LUPH_RAW_DEPTHS(bytes) bytes(left_depths), bytes(right_depths)
 #define LUPH_RAW_HELD(bytes, samples, limits)                                            \
     samples(left_samples), bytes(left_fronts), limits(left_limits), bytes(left_marks),   \
@@ -269,9 +269,9 @@ uint32_t luph_raw_open(luph_settings settings, LUPH_RAW_PICTURES, LUPH_RAW_DEPTH
     LUPH_RAW_HELD_OUT, LUPH_RAW_JOURNAL, uint64_t *total);
 uint32_t luph_raw_move(luph_settings settings, luph_settings to, LUPH_RAW_PICTURES, LUPH_RAW_DEPTHS(LUPH_RAW_IN),
     LUPH_RAW_HELD_OUT, LUPH_RAW_JOURNAL, uint64_t *total);
-uint32_t luph_raw_get(uint32_t w, uint32_t h, const uint16_t *left, const uint16_t *right, uint8_t share, uint8_t tolerance,
-    uint8_t widest_gap, uint8_t torn_distance, uint64_t total, LUPH_RAW_PICTURES, LUPH_RAW_DEPTHS(LUPH_RAW_IN), LUPH_RAW_HELD_IN,
-    uint32_t view, luph_block block, luph_private_shape shape, LUPH_RAW_IN(bytes), int64_t *change);
+uint32_t luph_raw_get(uint32_t w, uint32_t h, const uint16_t *left_table, const uint16_t *right_table, uint8_t share,
+    uint8_t tolerance, uint8_t widest_gap, uint8_t torn_distance, uint64_t total, LUPH_RAW_PICTURES, LUPH_RAW_DEPTHS(LUPH_RAW_IN),
+    LUPH_RAW_HELD_IN, uint32_t view, luph_block block, luph_private_shape shape, LUPH_RAW_IN(bytes), int64_t *change);
 uint32_t luph_raw_set(luph_settings settings, LUPH_RAW_PICTURES, LUPH_RAW_DEPTHS(LUPH_RAW_OUT),
     LUPH_RAW_HELD_OUT, LUPH_RAW_JOURNAL, uint32_t view, luph_block block, luph_private_shape shape, LUPH_RAW_IN(bytes),
     int64_t *change, uint64_t *total);
@@ -279,7 +279,7 @@ uint32_t luph_raw_take_back(luph_settings settings, LUPH_RAW_PICTURES, LUPH_RAW_
     LUPH_RAW_HELD_OUT, LUPH_RAW_JOURNAL, int64_t *change, uint64_t *total);
 uint32_t luph_raw_check(luph_settings settings, LUPH_RAW_PICTURES, LUPH_RAW_DEPTHS(LUPH_RAW_IN),
     LUPH_RAW_HELD_IN, uint32_t *kind, uint32_t *row, uint32_t *column);
-uint32_t luph_raw_holes(luph_settings settings, uint32_t view, LUPH_RAW_IN(left_marks), LUPH_RAW_IN(right_marks), uint64_t *count);
+uint32_t luph_raw_holes(luph_settings settings, uint32_t view, LUPH_RAW_IN(left), LUPH_RAW_IN(right), uint64_t *count);
 
 #undef LUPH_RAW_IN
 #undef LUPH_RAW_OUT

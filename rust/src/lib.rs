@@ -4,8 +4,8 @@
 //! texture and depths, the picture combined from both, and the total of its squared errors against a reference.
 //! [`Session::get`] answers how that total would change if a block of depths were replaced; [`Session::set`]
 //! replaces it, and [`Session::take_back`] puts back what the newest SET replaced. What takes the block's place is a
-//! [`Candidate`]: a full block, one value, or two regions with one value each. These calls touch only the stretch of each row
-//! that the block can change. [`Session::move_seat`] shows everything from another place, with new settings and a new
+//! [`Candidate`]: a full block, one value, or two regions with one value each. Samples, front depths, hole marks and the
+//! combined picture change only in the stretch of each row that the block can change. [`Session::move_seat`] shows everything from another place, with new settings and a new
 //! reference. Samples have ten bits, 0 to [`GREATEST_SAMPLE`].
 //!
 //! ```
@@ -39,8 +39,8 @@
 //! ```
 //!
 //! Callers that keep the planes in memory of their own use [`lent`], the same calls over slices.
-//! Numbers and lengths may be anything everywhere: a call that cannot be answered is refused with a [`Refusal`] and
-//! writes nothing.
+//! Numbers and lengths may be anything: a call that cannot be answered is refused with a [`Refusal`] and writes nothing
+//! ([`Session::is_hole`] alone panics).
 
 #![deny(missing_docs, unsafe_code)]
 
@@ -62,9 +62,9 @@ pub use types::{Block, Pictures, Planes, PlanesMut, Report, Settings, View, GREA
 ///
 /// Nothing is copied. The lengths, for w columns and h rows, are w × h entries, and ((w + 7) / 8) × h bytes for marks.
 /// After [`open`](lent::open) the caller passes the same pictures, and planes and settings as the last call left them; from an
-/// accepted [`move_seat`](lent::move_seat) on, the reference is the one that it was passed. With others [`get`](lent::get),
-/// [`set`](lent::set) and [`take_back`](lent::take_back) answer some change, write no depth outside the block, and nothing
-/// outside the planes and the journal.
+/// accepted [`move_seat`](lent::move_seat) on, the reference is the one that it was passed. With others the change that
+/// [`get`](lent::get), [`set`](lent::set) and [`take_back`](lent::take_back) answer is undecided, and any number of the call's
+/// list may come. They write no depth outside the block, and besides planes and journal only the total in the settings.
 ///
 /// A journal has as many words as the caller likes. Word 0 is the index of the newest record, 0 for none. A record at index i
 /// has in word i the index of the record before (0 for none), then view, first column, first row, width, height, and from word

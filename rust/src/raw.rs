@@ -1,124 +1,27 @@
-//! The symbols of the static library, and safe functions over them. All unsafe code of the crate is here.
+//! Safe functions over the symbols of the static library. All unsafe code of the crate is here.
 //!
 //! The library takes a slice as a pointer and then a length, and `Settings`, `Block` and a candidate's `Shape` by value; GET,
 //! the hot call, takes the settings field by field and the tables, of 256 entries each, by a pointer. It answers the
 //! refusal's number, 0 where the call is accepted. It is proved for every length and every content, so that what is
-//! left to show for each call below is that the pointers are of slices that live through the call and that a slice
-//! lent for writing overlaps no other. Both follow from the borrows.
+//! left to show for each call below is that the pointers are of slices that live through the call, that a slice lent for
+//! writing overlaps no other, and that `symbols` declares what the library exports. The first two follow from the borrows;
+//! the last is seen by tests/exports.rs, which compares the texts.
+
+mod symbols;
 
 use crate::{Block, Candidate, Pictures, Planes, PlanesMut, Point, Refusal, Regions, Report, Settings};
-
-/// A candidate but for its bytes. The layout is that of `luph_private_shape` in the C header.
-#[repr(C)]
-struct Shape {
-    kind: u32,
-    values: [u8; 2],
-    start: Point,
-    end: Point,
-}
+use symbols::*;
 
 /// A candidate as the library takes it: its shape, and the bytes that its kind has.
 #[inline(always)]
 fn parts(candidate: Candidate<'_>) -> (Shape, &[u8]) {
     const CORNER: Point = Point { column: 0, row: 0 };
     match candidate {
-        Candidate::Full(depths) => (Shape { kind: 0, values: [0; 2], start: CORNER, end: CORNER }, depths),
-        Candidate::Flat(value) => (Shape { kind: 1, values: [value, 0], start: CORNER, end: CORNER }, &[]),
-        Candidate::Regions { values, regions: Regions::Line { start, end } } => (Shape { kind: 2, values, start, end }, &[]),
-        Candidate::Regions { values, regions: Regions::Mask(bits) } => (Shape { kind: 3, values, start: CORNER, end: CORNER }, bits),
+        Candidate::Full(depths) => (Shape { kind: 0, value: [0; 2], start: CORNER, end: CORNER }, depths),
+        Candidate::Flat(value) => (Shape { kind: 1, value: [value, 0], start: CORNER, end: CORNER }, &[]),
+        Candidate::Regions { values, regions: Regions::Line { start, end } } => (Shape { kind: 2, value: values, start, end }, &[]),
+        Candidate::Regions { values, regions: Regions::Mask(bits) } => (Shape { kind: 3, value: values, start: CORNER, end: CORNER }, bits),
     }
-}
-
-#[rustfmt::skip]
-extern "C" {
-    fn luph_raw_render(
-        settings: Settings, view: u32,
-        texture: *const u16, texture_len: usize, depths: *const u8, depths_len: usize,
-        samples: *mut u16, samples_len: usize, marks: *mut u8, marks_len: usize, fronts: *mut u8, fronts_len: usize,
-    ) -> u32;
-    fn luph_raw_open(
-        settings: Settings,
-        left_texture: *const u16, left_texture_len: usize, right_texture: *const u16, right_texture_len: usize,
-        reference: *const u16, reference_len: usize,
-        left_depths: *const u8, left_depths_len: usize, right_depths: *const u8, right_depths_len: usize,
-        left_samples: *mut u16, left_samples_len: usize, left_fronts: *mut u8, left_fronts_len: usize,
-        left_limits: *mut i16, left_limits_len: usize, left_marks: *mut u8, left_marks_len: usize,
-        right_samples: *mut u16, right_samples_len: usize, right_fronts: *mut u8, right_fronts_len: usize,
-        right_limits: *mut i16, right_limits_len: usize, right_marks: *mut u8, right_marks_len: usize,
-        combined: *mut u16, combined_len: usize,
-        journal: *mut u32, journal_len: usize,
-        total: *mut u64,
-    ) -> u32;
-    fn luph_raw_move(
-        settings: Settings, to: Settings,
-        left_texture: *const u16, left_texture_len: usize, right_texture: *const u16, right_texture_len: usize,
-        reference: *const u16, reference_len: usize,
-        left_depths: *const u8, left_depths_len: usize, right_depths: *const u8, right_depths_len: usize,
-        left_samples: *mut u16, left_samples_len: usize, left_fronts: *mut u8, left_fronts_len: usize,
-        left_limits: *mut i16, left_limits_len: usize, left_marks: *mut u8, left_marks_len: usize,
-        right_samples: *mut u16, right_samples_len: usize, right_fronts: *mut u8, right_fronts_len: usize,
-        right_limits: *mut i16, right_limits_len: usize, right_marks: *mut u8, right_marks_len: usize,
-        combined: *mut u16, combined_len: usize,
-        journal: *mut u32, journal_len: usize,
-        total: *mut u64,
-    ) -> u32;
-    fn luph_raw_get(
-        w: u32, h: u32, left: *const u16, right: *const u16, share: u8, tolerance: u8, widest_gap: u8, torn_distance: u8, total: u64,
-        left_texture: *const u16, left_texture_len: usize, right_texture: *const u16, right_texture_len: usize,
-        reference: *const u16, reference_len: usize,
-        left_depths: *const u8, left_depths_len: usize, right_depths: *const u8, right_depths_len: usize,
-        left_samples: *const u16, left_samples_len: usize, left_fronts: *const u8, left_fronts_len: usize,
-        left_limits: *const i16, left_limits_len: usize, left_marks: *const u8, left_marks_len: usize,
-        right_samples: *const u16, right_samples_len: usize, right_fronts: *const u8, right_fronts_len: usize,
-        right_limits: *const i16, right_limits_len: usize, right_marks: *const u8, right_marks_len: usize,
-        combined: *const u16, combined_len: usize,
-        view: u32, block: Block, shape: Shape, bytes: *const u8, bytes_len: usize,
-        change: *mut i64,
-    ) -> u32;
-    fn luph_raw_set(
-        settings: Settings,
-        left_texture: *const u16, left_texture_len: usize, right_texture: *const u16, right_texture_len: usize,
-        reference: *const u16, reference_len: usize,
-        left_depths: *mut u8, left_depths_len: usize, right_depths: *mut u8, right_depths_len: usize,
-        left_samples: *mut u16, left_samples_len: usize, left_fronts: *mut u8, left_fronts_len: usize,
-        left_limits: *mut i16, left_limits_len: usize, left_marks: *mut u8, left_marks_len: usize,
-        right_samples: *mut u16, right_samples_len: usize, right_fronts: *mut u8, right_fronts_len: usize,
-        right_limits: *mut i16, right_limits_len: usize, right_marks: *mut u8, right_marks_len: usize,
-        combined: *mut u16, combined_len: usize,
-        journal: *mut u32, journal_len: usize,
-        view: u32, block: Block, shape: Shape, bytes: *const u8, bytes_len: usize,
-        change: *mut i64, total: *mut u64,
-    ) -> u32;
-    fn luph_raw_take_back(
-        settings: Settings,
-        left_texture: *const u16, left_texture_len: usize, right_texture: *const u16, right_texture_len: usize,
-        reference: *const u16, reference_len: usize,
-        left_depths: *mut u8, left_depths_len: usize, right_depths: *mut u8, right_depths_len: usize,
-        left_samples: *mut u16, left_samples_len: usize, left_fronts: *mut u8, left_fronts_len: usize,
-        left_limits: *mut i16, left_limits_len: usize, left_marks: *mut u8, left_marks_len: usize,
-        right_samples: *mut u16, right_samples_len: usize, right_fronts: *mut u8, right_fronts_len: usize,
-        right_limits: *mut i16, right_limits_len: usize, right_marks: *mut u8, right_marks_len: usize,
-        combined: *mut u16, combined_len: usize,
-        journal: *mut u32, journal_len: usize,
-        change: *mut i64, total: *mut u64,
-    ) -> u32;
-    fn luph_raw_check(
-        settings: Settings,
-        left_texture: *const u16, left_texture_len: usize, right_texture: *const u16, right_texture_len: usize,
-        reference: *const u16, reference_len: usize,
-        left_depths: *const u8, left_depths_len: usize, right_depths: *const u8, right_depths_len: usize,
-        left_samples: *const u16, left_samples_len: usize, left_fronts: *const u8, left_fronts_len: usize,
-        left_limits: *const i16, left_limits_len: usize, left_marks: *const u8, left_marks_len: usize,
-        right_samples: *const u16, right_samples_len: usize, right_fronts: *const u8, right_fronts_len: usize,
-        right_limits: *const i16, right_limits_len: usize, right_marks: *const u8, right_marks_len: usize,
-        combined: *const u16, combined_len: usize,
-        kind: *mut u32, row: *mut u32, column: *mut u32,
-    ) -> u32;
-    fn luph_raw_holes(
-        settings: Settings, view: u32,
-        left_marks: *const u8, left_marks_len: usize, right_marks: *const u8, right_marks_len: usize,
-        count: *mut u64,
-    ) -> u32;
 }
 
 #[inline]

@@ -6,11 +6,11 @@ use std::fmt;
 /// Two drawn views, the picture combined from them and the total of its squared errors, held for a pair of depth planes.
 ///
 /// A session owns copies of its pictures and depths, and nothing but [`set`](Session::set),
-/// [`take_back`](Session::take_back) and [`move_seat`](Session::move_seat) changes it. It is therefore always sound: every held
-/// plane and the total are those of a fresh drawing of the depths as they stand.
+/// [`take_back`](Session::take_back) and [`move_seat`](Session::move_seat) changes its pictures, planes or settings. It is
+/// therefore always sound: every held plane and the total are those of a fresh drawing of the depths as they stand.
 ///
-/// It also has a journal of the depths that its SETs replaced, which grows with them: 6 words and one for each depth of the
-/// block, 4 bytes each. [`keep`](Session::keep) empties it.
+/// It also has a journal of the depths that its SETs replaced: for each SET 6 words and one for each depth of the block, of 4
+/// bytes each. The journal grows where a SET needs room, and never becomes shorter; [`keep`](Session::keep) empties it.
 ///
 /// ```
 /// use luphwezane::{Block, Candidate, Pictures, Refusal, Session, Settings, View};
@@ -129,13 +129,18 @@ impl Session {
     /// The depths that were there are saved for [`take_back`](Session::take_back). Every call examines all that is saved, so
     /// that a long list of SETs becomes slow: call [`keep`](Session::keep) when they need not be taken back.
     ///
+    /// The journal grows where the library answers that it has no room for this block, as a rule to twice its length, and the call
+    /// is repeated: of a long list of SETs few are made twice. A call that is refused for another reason leaves the journal's
+    /// length too.
+    ///
     /// # Errors
-    /// Refuses as [`get`](Session::get) does; the session then stays as it is. The journal is given room before, so that
-    /// [`JournalFull`](Refusal::JournalFull) is left for one of 2³² words, which are 16 GB of saved depths.
+    /// Refuses as [`get`](Session::get) does, then [`JournalFull`](Refusal::JournalFull) where the record's index would pass 32
+    /// bits: that takes a journal of 2³² words, which are 16 GB. The session then stays as it is.
     pub fn set(&mut self, view: View, block: Block, candidate: Candidate) -> Result<i64, Refusal> {
-        self.make_room(block);
-        let (settings, pictures, mut planes, journal) = self.lent();
-        lent::set(settings, &pictures, &mut planes, journal, view as u32, block, candidate)
+        match self.set_with_room(view, block, candidate) {
+            Err(Refusal::JournalFull) if self.make_room(block) => self.set_with_room(view, block, candidate),
+            answer => answer,
+        }
     }
 
     /// Takes back the newest SET that stands: depths, held planes and total become what they were before it. Answers how the
@@ -210,19 +215,25 @@ impl Session {
         }
     }
 
-    /// Makes the journal long enough for the record of a SET of this block. A block that SET refuses needs none.
-    fn make_room(&mut self, block: Block) {
-        if block.width > self.settings.w || block.height > self.settings.h {
-            return;
-        }
-        let length = |width: u32, height: u32| 6 + width as usize * height as usize;
+    /// SET with the journal as long as it is.
+    fn set_with_room(&mut self, view: View, block: Block, candidate: Candidate) -> Result<i64, Refusal> {
+        let (settings, pictures, mut planes, journal) = self.lent();
+        lent::set(settings, &pictures, &mut planes, journal, view as u32, block, candidate)
+    }
+
+    /// Makes the journal long enough for the record of a block of the picture, if any length is.
+    fn make_room(&mut self, block: Block) -> bool {
+        let size = |width: u32, height: u32| 6 + width as usize * height as usize;
         let next = match self.journal[0] as usize {
             0 => 1,
-            newest => newest + length(self.journal[newest + 4], self.journal[newest + 5]),
+            newest => newest + size(self.journal[newest + 4], self.journal[newest + 5]),
         };
-        let end = next + length(block.width, block.height);
-        if self.journal.len() < end {
-            self.journal.resize(end, 0);
+        match grown(self.journal.len(), next, size(block.width, block.height)) {
+            Some(length) => {
+                self.journal.resize(length, 0);
+                true
+            }
+            None => false,
         }
     }
 
@@ -256,6 +267,13 @@ fn lengths(settings: &Settings) -> (usize, usize) {
     }
 }
 
+/// The words of a journal of `length` words that is to hold a record of `size` words at index `next`: at least twice as many,
+/// but past an index of 32 bits no more than the record needs. None where its own index passes 32 bits.
+fn grown(length: usize, next: usize, size: usize) -> Option<usize> {
+    const INDICES: usize = 1 << 32;
+    (next < INDICES).then(|| (next + size).max((2 * length).min(INDICES)))
+}
+
 #[inline]
 fn both<T>(pair: &[Vec<T>; 2]) -> [&[T]; 2] {
     let [left, right] = pair;
@@ -265,4 +283,82 @@ fn both<T>(pair: &[Vec<T>; 2]) -> [&[T]; 2] {
 fn both_mut<T>(pair: &mut [Vec<T>; 2]) -> [&mut [T]; 2] {
     let [left, right] = pair;
     [left, right]
+}
+
+#[cfg(test)]
+mod tests {
+    use super::*;
+    use crate::Point;
+
+    fn session(w: u32, h: u32) -> Session {
+        let table = std::array::from_fn(|d| d as u16);
+        let settings = Settings { w, h, left: table, right: table, share: 32, tolerance: 0, widest_gap: 8, torn_distance: 1, total: 0 };
+        let (texture, depths) = (vec![500; (w * h) as usize], vec![0; (w * h) as usize]);
+        let pictures = Pictures { textures: [&texture, &texture], reference: &texture };
+        Session::open(&settings, &pictures, [&depths, &depths]).expect("OPEN accepts it")
+    }
+
+    /// A SET that is refused with 5, 7, 14 or 15 leaves the journal's length and its memory, whatever size its block says.
+    #[test]
+    fn refused_sets_make_no_room() {
+        let side = 1024;
+        let mut session = session(side, side);
+        let block = |column, row, width, height| Block { column, row, width, height };
+        let start = Point { column: 0, row: 0 };
+        let flat_line = Candidate::line(start, Point { column: 1, row: 0 }, [1, 2]);
+        for stands in [false, true] {
+            if stands {
+                session.set(View::Left, block(3, 5, 8, 8), Candidate::Flat(9)).expect("SET accepts it");
+            }
+            let (journal, capacity) = (session.journal.clone(), session.journal.capacity());
+            for (width, height) in [(2, 2), (side, side), (side, 1), (1, side)] {
+                let full = vec![0; (width * height) as usize + 1];
+                let refused = [
+                    (block(side - width + 1, 0, width, height), Candidate::Flat(1), Refusal::Bounds),
+                    (block(0, side, width, height), Candidate::Flat(1), Refusal::Bounds),
+                    (block(0, 0, width, 0), Candidate::Flat(1), Refusal::Bounds),
+                    (block(0, 0, u32::MAX, u32::MAX), Candidate::Flat(1), Refusal::Bounds),
+                    (block(0, 0, width, height), Candidate::Full(&full), Refusal::Candidate),
+                    (block(0, 0, width, height), Candidate::Full(&[]), Refusal::Candidate),
+                    (block(0, 0, width, height), flat_line, Refusal::Line),
+                    (block(0, 0, width, height), Candidate::mask(&full, [1, 2]), Refusal::Mask),
+                ];
+                for (block, candidate, refusal) in refused {
+                    assert_eq!(session.set(View::Right, block, candidate), Err(refusal));
+                    assert!(session.journal == journal && session.journal.capacity() == capacity, "{refusal} with {block:?} made room");
+                }
+            }
+        }
+    }
+
+    /// Few of many SETs find no room, and then the journal becomes at least twice as long.
+    #[test]
+    fn room_is_made_ahead() {
+        let mut session = session(4, 1);
+        let mut lengths = vec![session.journal.len()];
+        for k in 0..1000 {
+            let block = Block { column: k % 4, row: 0, width: 1, height: 1 };
+            session.set(View::Left, block, Candidate::Flat(k as u8)).expect("SET accepts it");
+            if session.journal.len() != lengths[lengths.len() - 1] {
+                lengths.push(session.journal.len());
+            }
+        }
+        assert!(lengths.windows(2).all(|pair| pair[1] >= 2 * pair[0]), "{lengths:?}");
+        assert!((7001..14002).contains(&session.journal.len()) && lengths.len() < 15, "{lengths:?}");
+        session.keep();
+        session.set(View::Left, Block { column: 0, row: 0, width: 4, height: 1 }, Candidate::Flat(7)).expect("SET accepts it");
+        assert_eq!(session.journal.len(), lengths[lengths.len() - 1], "room that is there is used again");
+    }
+
+    #[test]
+    fn room_ends_with_the_indices() {
+        let last = u32::MAX as usize;
+        assert_eq!(grown(1, 1, 7), Some(8));
+        assert_eq!(grown(100, 98, 7), Some(200));
+        assert_eq!(grown(100, 98, 7000), Some(7098));
+        assert_eq!(grown(last - 1000, last - 1005, 6 + 4096 * 4096), Some(last - 999 + 4096 * 4096));
+        assert_eq!(grown(last - 1000, last - 1005, 7), Some(last + 1));
+        assert_eq!(grown(last + 1, last, 7), Some(last + 7));
+        assert_eq!((grown(last + 7, last + 1, 7), grown(last + 7, last + 7, 7)), (None, None));
+    }
 }

@@ -10,7 +10,7 @@ mod boundary;
 mod paper;
 mod random;
 
-use luphwezane::{lent, Block, Pictures, Planes, PlanesMut, Refusal, Report, Settings};
+use luphwezane::{lent, Block, Pictures, Planes, PlanesMut, Refusal, Report, Settings, GREATEST_SAMPLE};
 use paper::Drawing;
 use random::{Guarded, GuardedPlanes, Random, Scene, Tried};
 use std::collections::BTreeSet;
@@ -353,7 +353,7 @@ fn compare_read(before: &Call, after: &Call, read: &Call) {
 }
 
 /// What holds of an accepted SET whatever the planes hold: the depths, the total, the rows outside the block and the
-/// other view's planes.
+/// other view's planes; no sample above 1,023 is written, and limits past the block's last column and spare bits stay.
 fn compare_any(before: &Call, after: &Call, change: i64) {
     let Call { settings, view, block, .. } = before;
     let (v, w) = (*view as usize, settings.w as usize);
@@ -374,6 +374,19 @@ fn compare_any(before: &Call, after: &Call, change: i64) {
         assert_eq!(new.limits[v][row.clone()], old.limits[v][row.clone()]);
         assert_eq!(new.marks[v][packed.clone()], old.marks[v][packed]);
         assert_eq!(new.combined[row.clone()], old.combined[row]);
+    }
+    let samples = |planes: &Planes| [planes.samples[v], planes.combined].concat();
+    for (old, new) in samples(&old).into_iter().zip(samples(&new)) {
+        assert!(new == old || new <= GREATEST_SAMPLE, "{old} became {new}");
+    }
+    let past = if v == 1 { 0..block.column as usize } else { (block.column + block.width) as usize..w };
+    for y in 0..settings.h as usize {
+        let limits = y * w + past.start..y * w + past.end;
+        assert_eq!(new.limits[v][limits.clone()], old.limits[v][limits]);
+        if w % 8 > 0 {
+            let last = y * paper::mark_bytes(w) + w / 8;
+            assert_eq!(new.marks[v][last] >> (w % 8), old.marks[v][last] >> (w % 8));
+        }
     }
 }
 

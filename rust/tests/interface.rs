@@ -158,19 +158,38 @@ fn a_session_moves() {
     assert_eq!((session.settings(), session.check()), (&own, Report::Sound));
 }
 
-/// A block that is refused makes no room in the journal, however large it says it is; one that fits does.
+/// Between SETs that find room come some that are refused by every number, of small blocks and of huge ones: each leaves the
+/// session as it was, and what is taken back after all of them is what was set.
 #[test]
 fn a_session_makes_room() {
     let mut session = session();
-    let huge = Block { column: 0, row: 0, width: u32::MAX, height: u32::MAX };
-    assert_eq!(session.set(View::Left, huge, Candidate::Flat(1)), Err(Refusal::Bounds));
+    let block = |column, row, width, height| Block { column, row, width, height };
+    let (corner, level) = (Point { column: 0, row: 0 }, Point { column: 8, row: 0 });
+    let refused = [
+        (block(0, 0, u32::MAX, u32::MAX), Candidate::Flat(1), Refusal::Bounds),
+        (block(1, 0, 9, 2), Candidate::Flat(1), Refusal::Bounds),
+        (block(0, 0, 9, u32::MAX), Candidate::Full(&[]), Refusal::Bounds),
+        (block(0, 0, 0, 2), Candidate::Full(&[]), Refusal::Bounds),
+        (block(8, 1, 1, 1), Candidate::Full(&[1, 2]), Refusal::Candidate),
+        (block(0, 0, 9, 2), Candidate::Full(&[1; 17]), Refusal::Candidate),
+        (block(8, 1, 1, 1), Candidate::line(corner, corner, [1, 2]), Refusal::Line),
+        (block(0, 0, 9, 2), Candidate::line(corner, level, [1, 2]), Refusal::Line),
+        (block(8, 1, 1, 1), Candidate::mask(&[], [1, 2]), Refusal::Mask),
+        (block(0, 0, 9, 2), Candidate::mask(&[1; 4], [1, 2]), Refusal::Mask),
+    ];
     for (k, width) in [1, 9, 2, 9, 9, 3].into_iter().enumerate() {
-        let block = Block { column: 0, row: 0, width, height: 2 };
-        session.set(View::Left, block, Candidate::Flat(k as u8)).expect("SET accepts it");
-        assert_eq!(session.set(View::Left, huge, Candidate::Flat(1)), Err(Refusal::Bounds));
+        session.set(View::Left, block(0, 0, width, 2), Candidate::Flat(k as u8)).expect("SET accepts it");
+        let before = session.clone();
+        for (block, candidate, refusal) in refused {
+            assert_eq!(session.set(View::Left, block, candidate), Err(refusal), "{block:?}");
+            assert_eq!(session.get(View::Left, block, candidate), Err(refusal), "{block:?}");
+            assert_eq!((session.settings(), session.planes().depths), (before.settings(), before.planes().depths));
+        }
+        assert_eq!(session.check(), Report::Sound);
     }
     let firsts: Vec<u8> = (0..6).map(|_| session.take_back().map(|_| session.planes().depths[0][0]).expect("it stands")).collect();
     assert_eq!(firsts, [4, 3, 2, 1, 0, 0]);
+    assert_eq!(session.take_back(), Err(Refusal::NothingToTakeBack));
 }
 
 /// A candidate is small, can be copied and compared, and is a value that a constant may have.

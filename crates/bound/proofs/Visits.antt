@@ -1,122 +1,130 @@
--- The calls of `open_and_try` are a run with one journal, so they answer what the plain record answers; the SET and the GET after it are a run of the other kind
--- too.
+-- The calls of `set_and_take_back` are a run with one journal, so what SET and TAKE BACK answer and leave follows from the theorem.
 use Prim.Native.Nat.{ℕ}
-use mathlib.Core.Path.{_≡_, ap, sym, _∙_, subst}
+use mathlib.Core.Path.{_≡_, refl, sym, ap, _∙_, subst}
 use mathlib.Core.Bool.{Bool, cond}
 use mathlib.Core.List.{List, [], _∷_}
 use lib.IntN.{ℤ, pos, _-ℤ_}
 use lib.Dec.{eqb}
-use borrow.Author.Tests.{eqb-true}
+use native.Mathlib.Omega.{arith}
+use borrow.Author.Tests.{eqb-true, eqb-false, eq-eqb, ne-eqb}
 use Rattle.model.specs.declared.Settings.{Settings}
 use Rattle.model.specs.declared.Block.{Block}
 use Rattle.model.specs.declared.Candidate.{Candidate}
-use Rattle.model.specs.declared.Opened.{Opened}
-use Rattle.model.specs.declared.Trial.{Trial}
-use Rattle.model.specs.declared.Edited.{Edited}
-use Rattle.model.specs.Planes.{Pictures, Depths, Held}
-use Rattle.model.specs.Candidates.{filled}
-use Rattle.model.specs.Blocks.{changeOf}
-use Rattle.model.specs.Refusals.{numberOf}
-use Rattle.model.specs.Promises.{OpenPost, GetPost, SetPost, TakeBackPost}
+use Rattle.model.specs.Planes.{Pictures, Depths, Held, State, withTotal}
+use Rattle.model.specs.Fresh.{fresh, freshTotal}
+use Rattle.model.specs.Promises.{OpenPost, SetPost, TakeBackPost}
 use Rattle.model.proofs.Choice.{bool-cases}
-use Rattle.run.specs.Run.{Event, Reply, replyOf, Plain, plain, plainAnswer, plainNumber, plainAccepted, plainNext, plainChange, plainReply, plainEvents}
-use Rattle.run.specs.Run.Call.{get as call-get, set as call-set}
-use Rattle.run.specs.Run.Run.{halted as stopped, got as tried, wrote as edited}
-use Rattle.run.specs.Shared.{SharedPlain, struck, sharedNumber, sharedNext, accepted, sharedChange, sharedReply, sharedEvents, AllSharedUsual, Found, stackAfter, Restores, AllRestore}
-use Rattle.run.specs.Shared.SharedCall.{get, set, takeBack}
-use Rattle.run.specs.Shared.SharedRun.{halted, got, wrote, took}
-use Rattle.run.proofs.Run.{session-run}
-use Rattle.run.proofs.Shared.{shared-run, get-next}
-use Rattle.bound.specs.Answers.{answered, afterOpen, afterSet, afterTaking, depthsAfter, Visited}
-use Rattle.bound.proofs.Replies.{first, rest, answer-change}
+use Rattle.run.specs.Run.{Event, Reply, leaves, plain, plainAnswer}
+use Rattle.run.specs.Shared.{SharedRun, opened, sharedReply, sharedEvents, SharedPost, Found, stackAfter, Restores, AllRestore, AllSharedKept}
+use Rattle.run.specs.Shared.SharedCall.{set, takeBack}
+use Rattle.run.specs.Shared.SharedRun.{halted}
+use Rattle.luphwezane.specs.Exports.{OpenedOut, EditedOut}
+use Rattle.bound.specs.Latest.{latest}
+use Rattle.bound.specs.Answers.{told, Visited}
+use Rattle.bound.proofs.Steps.{wrote-shared, took-shared, opened-shared}
 
--- a GET is answered by what was drawn first and the SETs standing alone
-get-standing :
-    (q r : SharedPlain) (v : ℕ) (b : Block) (c : Candidate) (x : List ℕ) → q .start ≡ r .start → q .standing ≡ r .standing →
-    sharedReply q (get v b c x) ≡ sharedReply r (get v b c x)
-unfolding sharedReply sharedNumber sharedChange
-get-standing q r v b c x f e = rw (f, e)
+-- A caller that takes the total which the functions write for that of its settings has the latest ones whether a call is accepted or not.
+latest-total : (number total₀ total : ℕ) (s : Settings) → total₀ ≡ s .total → ((number ≡ 0 → ⊥) → total ≡ total₀) → latest number s s total ≡ withTotal s total
+latest-total number total₀ total s e kept =
+    bool-cases (eqb number 0) (λ t. rw t refl) (λ t. rw t (sym (ap (withTotal s) (kept (eqb-false number 0 t) ∙ e))))
 
--- what one SET and a TAKE BACK leave: nothing is drawn anew, and no SET stands, whether the SET was refused or it was taken back
-module _ (s : Settings) (p : Pictures) (d : Depths) (j : List ℕ) (v : ℕ) (b : Block) (e : Candidate) (y : List ℕ) where
-  none-standing : (sharedNumber (afterOpen s p d j) (set v b e y) ≡ 0 → sharedNumber (afterSet s p d j v b e y) takeBack ≡ 0) → afterTaking s p d j v b e y .standing ≡ []
-  unfolding sharedNext accepted struck
-  none-standing taken =
-      bool-cases (eqb (sharedNumber (afterOpen s p d j) (set v b e y)) 0)
-      (λ t. let z = taken (eqb-true (sharedNumber (afterOpen s p d j) (set v b e y)) 0 t) in rw (z, t))
-      (λ t. bool-cases (eqb (sharedNumber (afterSet s p d j v b e y) takeBack) 0) (λ u. rw (u, t)) (λ u. rw (u, t)))
+-- the reply of the first of some events
+unfoldable first : Event → List Event → Reply
+first z [] = z .reply
+first z (e ∷ es) = e .reply
 
-  same-start : afterTaking s p d j v b e y .start ≡ plain s p d
-  unfolding sharedNext accepted
-  same-start =
-      bool-cases (eqb (sharedNumber (afterOpen s p d j) (set v b e y)) 0)
-      (λ t. bool-cases (eqb (sharedNumber (afterSet s p d j v b e y) takeBack) 0) (λ u. rw (u, t)) (λ u. rw (u, t)))
-      (λ t. bool-cases (eqb (sharedNumber (afterSet s p d j v b e y) takeBack) 0) (λ u. rw (u, t)) (λ u. rw (u, t)))
+-- the change of an accepted call
+answer-change : (n : ℕ) (change : ℤ) → n ≡ 0 → plainAnswer n change .change ≡ change
+unfolding plainAnswer
+answer-change n change z = ap (λ (t : Bool). cond t change (pos 0)) (eq-eqb n 0 z)
 
--- what the run says of TAKE BACK after one SET, whose number is n; f is what an accepted one found
-taken-back : (n : ℕ) (f : Found) (e : Event) → Restores (cond (eqb n 0) (f ∷ []) []) takeBack e → n ≡ 0 → (e .reply .number ≡ 0) × (e .reply .change ≡ pos 0 -ℤ f .change)
-taken-back n f e h z =
-    let g = subst (λ (t : Bool). Restores (cond t (f ∷ []) []) takeBack e) (ap (λ (i : ℕ). eqb i 0) z) h in (g .0, g .1 .1)
+-- what a run says of TAKE BACK after one SET, whose number is n; f is what an accepted one found
+set-taken : (n : ℕ) (f : Found) (e : Event) → Restores (cond (eqb n 0) (f ∷ []) []) takeBack e → n ≡ 0 → (e .reply .number ≡ 0) × ((e .after ≡ f .before) × (e .reply .change ≡ pos 0 -ℤ f .change))
+set-taken n f e h z = subst (λ (t : Bool). Restores (cond t (f ∷ []) []) takeBack e) (eq-eqb n 0 z) h
 
 none-taken : (n : ℕ) (f : Found) (e : Event) → Restores (cond (eqb n 0) (f ∷ []) []) takeBack e → (n ≡ 0 → ⊥) → e .reply .number ≡ 12
-none-taken n f e h ne =
-    bool-cases (eqb n 0) (λ t. absurd (ne (eqb-true n 0 t))) (λ t. subst (λ (t : Bool). Restores (cond t (f ∷ []) []) takeBack e) t h)
+none-taken n f e h ne = subst (λ (t : Bool). Restores (cond t (f ∷ []) []) takeBack e) (ne-eqb n 0 ne) h
 
--- a GET after one SET, by the record of document 01: the SET is passed journal j and answered number n
-set-stands :
-    (s : Settings) (p : Pictures) (d : Depths) (j : List ℕ) (v : ℕ) (b : Block) (c : Candidate) (x : List ℕ) (e : Candidate) (y : List ℕ) (n : ℕ) (a : Reply) →
-    n ≡ plainNumber (plain s p d) (call-set v b e y j) → a ≡ plainReply (plainNext (plain s p d) (call-set v b e y j)) (call-get v b c x) → a .number ≡ 0 →
-    a .change ≡ changeOf s p (depthsAfter n s d v b e y) v b (filled b c x)
-unfolding plainNumber plainAccepted plainNext plainAnswer plainChange plainReply
-set-stands s p d j v b c x e y n a m h z =
-    let P : Plain = plainNext (plain s p d) (call-set v b e y j) in
-    let change : a .change ≡ plainChange P (call-get v b c x) =
-    ap (λ (i : Reply). i .change) h ∙ answer-change (plainNumber P (call-get v b c x)) (plainChange P (call-get v b c x)) (sym (ap (λ (i : Reply). i .number) h) ∙ z) in
-    change ∙ bool-cases (eqb n 0) (λ t. rw (sym m, t)) (λ t. rw (sym m, t))
+module _ {s : Settings} {p : Pictures} {d₀ : Depths} {h₀ h₁ : Held} {j₀ j₁ : List ℕ} {n₁ t₀ t₁ : ℕ} {change₀ back₀ : ℤ} (o : OpenedOut (OpenPost s p d₀ h₀ h₁ j₀ j₁) n₁ t₀ t₁) where
+  pub not-opened :
+      {v : ℕ} {b : Block} {c : Candidate} {x : List ℕ} → (n₁ ≡ 0 → ⊥) →
+      Visited s p d₀ d₀ h₀ h₁ j₀ j₁ v b c x (told change₀ back₀ t₀) (told change₀ back₀ t₁) (record { opened = n₁; written = 0; taken = 0 })
+  not-opened ne =
+      record {
+        number = o .number-is ∙ o .promised .number;
+        refused = λ _. (refl, (refl, ap (told change₀ back₀) (o .refused ne)));
+        refused-planes = λ _. (refl, (o .promised .refused-held (λ z. ne (o .number-is ∙ z)), o .promised .refused-journal (λ z. ne (o .number-is ∙ z))));
+        written = λ z. absurd (ne z);
+        undone = λ z. absurd (ne z);
+        nothing = λ z. absurd (ne z);
+        restored = λ z. absurd (ne z);
+        journal = λ z. absurd (ne z);
+      }
 
-pub visited :
-    (s : Settings) (p : Pictures) (d d₁ d₂ : Depths) (h₀ h h₁ h₂ : Held) (j₀ j j₁ j₂ : List ℕ) (v : ℕ) (b : Block) (c : Candidate) (x : List ℕ) (e : Candidate) (y : List ℕ)
-    (o : Opened) (t : Trial) (w : Edited) (a : Trial) (k : Edited) (l : Trial) (n m : ℤ) → n ≡ w .change → m ≡ k .change →
-    OpenPost s p d h₀ h j₀ j o → numberOf (o .refusal) ≡ 0 → GetPost (o .settings) p d h v b c x t → SetPost (o .settings) p d d₁ h h₁ j j₁ v b e y w →
-    GetPost (w .settings) p d₁ h₁ v b c x a → TakeBackPost (w .settings) p d₁ d₂ h₁ h₂ j₁ j₂ k → GetPost (k .settings) p d₂ h₂ v b c x l →
-    Visited s p d j₀ v b c x e y
-    (record { opened = o .refusal; tried = t; chosen = record { refusal = w .refusal; change = n }; again = a; taken = record { refusal = k .refusal; change = m }; last = l })
-unfolding first rest plainReply plainEvents sharedEvents sharedReply plainAnswer AllSharedUsual AllRestore stackAfter
-visited s p d d₁ d₂ h₀ h h₁ h₂ j₀ j j₁ j₂ v b c x e y o t w a k l n m same same′ post accepted gets sets gets′ takes gets″ =
-    let z : Event = record { reply = record { number = 0; change = t .change }; after = record { settings = s; depths = d; held = h }; journal = j } in
-    let run = shared-run s p d h₀ h j₀ j o post accepted (got t gets (wrote w d₁ h₁ j₁ sets (got a gets′ (took k d₂ h₂ j₂ takes (got l gets″ halted))))) in
-    let one = session-run s p d h₀ h j₀ j o post accepted (edited w d₁ h₁ j₁ sets (tried a gets′ stopped)) .events in
-    let r = run .events in
-    let back = run .restored .1 .1 .1 .0 in
-    let O : SharedPlain = afterOpen s p d j₀ in
-    let S : SharedPlain = afterSet s p d j₀ v b e y in
-    let stays = get-next O v b c x in
-    let stays′ = get-next S v b c x in
-    let tried : answered t ≡ sharedReply O (get v b c x) = ap (first z) r in
-    let chosen : replyOf (w .refusal) (w .change) ≡ sharedReply O (set v b e y) =
-    ap (λ (es : List Event). first z (rest es)) r ∙ ap (λ (q : SharedPlain). sharedReply q (set v b e y)) stays in
-    let again : answered a ≡ sharedReply S (get v b c x) =
-    ap (λ (es : List Event). first z (rest (rest es))) r ∙ ap (λ (q : SharedPlain). sharedReply (sharedNext q (set v b e y)) (get v b c x)) stays in
-    let taken : replyOf (k .refusal) (k .change) ≡ sharedReply S takeBack =
-    ap (λ (es : List Event). first z (rest (rest (rest es)))) r
-    ∙ ap (λ (q : SharedPlain). sharedReply (sharedNext (sharedNext q (set v b e y)) (get v b c x)) takeBack) stays
-    ∙ ap (λ (q : SharedPlain). sharedReply q takeBack) stays′ in
-    let last : answered l ≡ sharedReply (sharedNext S takeBack) (get v b c x) =
-    ap (λ (es : List Event). first z (rest (rest (rest (rest es))))) r
-    ∙ ap (λ (q : SharedPlain). sharedReply (sharedNext (sharedNext (sharedNext q (set v b e y)) (get v b c x)) takeBack) (get v b c x)) stays
-    ∙ ap (λ (q : SharedPlain). sharedReply (sharedNext q takeBack) (get v b c x)) stays′ in
-    let undone : numberOf (w .refusal) ≡ 0 → (numberOf (k .refusal) ≡ 0) × (k .change ≡ pos 0 -ℤ w .change) = taken-back (numberOf (w .refusal)) _ _ back in
-    let empty : sharedNext S takeBack .standing ≡ [] =
-    none-standing s p d j₀ v b e y (λ q. sym (ap (λ (i : Reply). i .number) taken) ∙ undone (ap (λ (i : Reply). i .number) chosen ∙ q) .0) in
-    record {
-      tried = λ _. tried;
-      chosen = λ _. ap (λ (i : ℤ). record { number = numberOf (w .refusal); change = i }) same ∙ chosen;
-      again = λ _. again;
-      taken = λ _. ap (λ (i : ℤ). record { number = numberOf (k .refusal); change = i }) same′ ∙ taken;
-      last = λ _. last;
-      usual = λ _. run .usual .1 .0;
-      stands = λ _. set-stands s p d j v b c x e y (numberOf (w .refusal)) (answered a) (ap (λ (es : List Event). first z es .number) one) (ap (λ (es : List Event). first z (rest es)) one);
-      undone = λ _ q. (undone q .0, same′ ∙ undone q .1 ∙ ap (λ (i : ℤ). pos 0 -ℤ i) (sym same));
-      nothing = λ _. none-taken (numberOf (w .refusal)) _ _ back;
-      same = λ _. last ∙ get-standing (sharedNext S takeBack) O v b c x (same-start s p d j₀ v b e y) empty ∙ sym tried;
-    }
+  module _ {d₂ d₃ : Depths} {h₂ h₃ : Held} {j₂ j₃ : List ℕ} {v : ℕ} {b : Block} {c : Candidate} {x : List ℕ} {n₂ t₂ n₃ t₃ : ℕ} {change back : ℤ} (w : EditedOut (SetPost (withTotal s t₁) p d₀ d₂ h₁ h₂ j₁ j₂ v b c x) n₂ change₀ change t₁ t₂) (k : EditedOut (TakeBackPost (withTotal s t₂) p d₂ d₃ h₂ h₃ j₂ j₃) n₃ back₀ back t₂ t₃) (z : n₁ ≡ 0) where
+    opens : latest n₁ s s t₁ ≡ withTotal s t₁
+    opens = rw z refl
+
+    writes : latest n₂ (withTotal s t₁) (withTotal s t₁) t₂ ≡ withTotal s t₂
+    writes = latest-total n₂ t₁ t₂ (withTotal s t₁) refl (λ ne. w .refused ne .1)
+
+    takes : latest n₃ (withTotal s t₂) (withTotal s t₂) t₃ ≡ withTotal s t₃
+    takes = latest-total n₃ t₂ t₃ (withTotal s t₂) refl (λ ne. k .refused ne .1)
+
+    abbrev start : State
+    start = leaves (withTotal s t₁) d₀ h₁
+
+    abbrev second : Event
+    second = record { reply = plainAnswer n₂ change; after = leaves (withTotal s t₂) d₂ h₂; journal = j₂ }
+
+    abbrev third : Event
+    third = record { reply = plainAnswer n₃ back; after = leaves (withTotal s t₃) d₃ h₃; journal = j₃ }
+
+    posted : SharedPost (opened (plain s p d₀) j₀) start j₁ (set v b c x ∷ takeBack ∷ []) (second ∷ third ∷ []) (leaves (withTotal s t₃) d₃ h₃) j₃
+    posted =
+        let third-step : SharedRun p (leaves (withTotal s t₂) d₂ h₂) j₂ (takeBack ∷ []) (third ∷ []) (leaves (withTotal s t₃) d₃ h₃) j₃ = rw takes at (took-shared k halted) in
+        let second-step : SharedRun p start j₁ (set v b c x ∷ takeBack ∷ []) (second ∷ third ∷ []) (leaves (withTotal s t₃) d₃ h₃) j₃ =
+        rw writes at (wrote-shared w (rw (sym writes) at third-step)) in
+        rw opens at (opened-shared o z (rw (sym opens) at second-step))
+
+    written-as : plainAnswer n₂ change ≡ sharedReply (opened (plain s p d₀) j₀) (set v b c x)
+    unfolding first sharedEvents
+    written-as = ap (first second) (posted .events)
+
+    -- what the run says of TAKE BACK
+    takes-back : Restores (cond (eqb n₂ 0) (record { before = start; change = plainAnswer n₂ change .change } ∷ []) []) takeBack third
+    unfolding AllRestore stackAfter plainAnswer
+    takes-back = posted .restored .1 .0
+
+    set-undone : n₂ ≡ 0 → (n₃ ≡ 0) × ((leaves (withTotal s t₃) d₃ h₃ ≡ start) × (back ≡ pos 0 -ℤ change))
+    unfolding plainAnswer
+    set-undone y =
+        let f = set-taken n₂ _ third takes-back y in
+        (f .0, (f .1 .0, sym (answer-change n₃ back (f .0)) ∙ f .1 .1 ∙ ap (λ (m : ℤ). pos 0 -ℤ m) (answer-change n₂ change y)))
+
+    set-refused : (n₂ ≡ 0 → ⊥) → (n₃ ≡ 12) × (leaves (withTotal s t₃) d₃ h₃ ≡ start)
+    unfolding AllSharedKept plainAnswer
+    set-refused ne =
+        let twelve = none-taken n₂ _ third takes-back ne in
+        (twelve, posted .kept .1 .0 .0 (λ y. absurd (omega (arith, twelve, y))) .0 ∙ posted .kept .0 .0 ne .0)
+
+    -- either way what OPEN left is there again
+    same : leaves (withTotal s t₃) d₃ h₃ ≡ start
+    same = bool-cases (eqb n₂ 0) (λ t. set-undone (eqb-true n₂ 0 t) .1 .0) (λ t. set-refused (eqb-false n₂ 0 t) .1)
+
+    pub opened-and-set : Visited s p d₀ d₃ h₀ h₃ j₀ j₃ v b c x (told change₀ back₀ t₀) (told change back t₃) (record { opened = n₁; written = n₂; taken = n₃ })
+    opened-and-set =
+        let yes = sym (o .number-is) ∙ z in
+        record {
+          number = o .number-is ∙ o .promised .number;
+          refused = λ ne. absurd (ne z);
+          refused-planes = λ ne. absurd (ne z);
+          written = λ _. written-as;
+          undone = λ _ y. (set-undone y .0, set-undone y .1 .1);
+          nothing = λ _ ne. let f = set-refused ne .0 in (f, (w .refused ne .0, k .refused (λ y. absurd (omega (arith, f, y))) .0));
+          restored = λ _. (
+            ap (λ (t : State). t .depths) same,
+            (ap (λ (t : State). t .held) same ∙ o .promised .held yes, ap (λ (t : State). t .settings .total) same ∙ o .accepted z ∙ ap (λ (n : Settings). n .total) (o .promised .settings yes)),
+          );
+          journal = λ _. posted .journal;
+        }

@@ -1,2 +1,3 @@
--- A visit to a session.
+-- What a caller of the exported functions has and answers.
+pub mod Latest
 pub mod Answers

@@ -1,9 +1,10 @@
 -- The definitions that the small rows do not reach compute too: packed marks, hole counts, every filter, near edges, filled blocks and lines, and, on
 -- the session of document 01 (4 × 1, depths 0), spans, refusals, also those of a journal and of MOVE, and CHECK's report.
-use Prim.Native.Nat.{ℕ}
+use Prim.Native.Nat.{ℕ, _-_, _*_}
 use mathlib.Core.Path.{_≡_, refl}
-use mathlib.Core.Bool.{Bool, true, false}
+use mathlib.Core.Bool.{Bool, true, false, cond}
 use mathlib.Core.List.{List, [], _∷_}
+use lib.Dec.{eqb}
 use lib.ListN.{length}
 use lib.IntN.{ℤ, pos}
 use Rattle.model.specs.declared.Tear.{Tear}
@@ -19,10 +20,10 @@ use Rattle.model.specs.Lists.{listOf, listFrom, rows, rowOf, sumTo}
 use Rattle.model.specs.Row.{Row, line, neg, place, least, limit, owner, kindOf, stepOf, taps1, taps2, taps3, repeated, sampleIn, read, weighted, filtered, mixed, smoothPixel, tornPixel, lastPixel, pairPixel, ownedPixel, placedAt, nearEdge, shownPixel, pixelAt, limitAt, leftRow}
 use Rattle.model.specs.Views.{seen, viewRow, entryOf}
 use Rattle.model.specs.Marks.{packByte, packRow, rowHoles, holesIn}
-use Rattle.model.specs.Combined.{shared, bothShown, bothHoles, combinedOf, squareError}
-use Rattle.model.specs.Planes.{Depths, View, Held, pictures, depths, view, held, strip, withTotal}
-use Rattle.model.specs.Fresh.{freshRow, freshView, freshSample, freshCombined, fresh, totalOf, freshTotal}
-use Rattle.model.specs.Span.{leastEdited, spanLow, spanHigh, inSpan, firstColumn, placesOf, spanHas, limitMoves}
+use Rattle.model.specs.Combined.{blended, bothShown, bothHoles, combinedOf, squareError}
+use Rattle.model.specs.Planes.{Pictures, Depths, View, Held, pictures, depths, view, held, strip, withTotal}
+use Rattle.model.specs.Fresh.{freshRow, stripOf, freshView, freshSample, freshCombined, fresh, totalOf, freshTotal}
+use Rattle.model.specs.Span.{leastEdited, spanLow, spanHigh, inSpan, firstColumn, viewPlace, spanHas, limitMoves}
 use Rattle.model.specs.Reports.{sameMark, sameView, sameAt, firstBad, firstDifference, reportOf}
 use Rattle.model.specs.Candidates.{cross, inRegion1, filled, onBorder, sideShared, lineOk}
 use Rattle.model.specs.Journals.{recordDepths, nextIndex}
@@ -83,6 +84,22 @@ filters :
 unfolding shown edge eight higher pair viewRow seen leftRow limitAt pixelAt shownPixel nearEdge placedAt ownedPixel pairPixel lastPixel tornPixel smoothPixel mixed filtered weighted repeated sampleIn read taps1 taps2 taps3 stepOf kindOf owner limit least place listFrom identity
 filters = (refl, refl, refl, refl, refl, refl, refl, refl, refl, refl, refl)
 
+-- every tap: 512 all along but 512 + 64 in column 5, so that position 1 shows 512 and the tap of column c + 4, position 8 that of column c − 3
+impulse : List ℕ
+impulse = listOf (λ i. cond (eqb i 5) 576 512) 12
+
+taps :
+    (shown false impulse 1 ≡ 512 ∷ 512 ∷ 513 ∷ 507 ∷ 529 ∷ 570 ∷ 502 ∷ 516 ∷ 511 ∷ 512 ∷ 512 ∷ 512 ∷ [])
+    × (shown false impulse 2 ≡ 512 ∷ 511 ∷ 516 ∷ 501 ∷ 552 ∷ 552 ∷ 501 ∷ 516 ∷ 511 ∷ 512 ∷ 512 ∷ 512 ∷ [])
+    × (shown false impulse 3 ≡ 512 ∷ 511 ∷ 516 ∷ 502 ∷ 570 ∷ 529 ∷ 507 ∷ 513 ∷ 512 ∷ 512 ∷ 512 ∷ 512 ∷ [])
+unfolding impulse shown viewRow seen leftRow limitAt pixelAt shownPixel nearEdge placedAt ownedPixel pairPixel lastPixel tornPixel smoothPixel mixed filtered weighted repeated sampleIn read taps1 taps2 taps3 stepOf kindOf owner limit least place listFrom identity
+taps = (refl, refl, refl)
+
+-- a tie of the step: position 0 lies 1 past a column and position 1 lies 5 past it, both of a gap of 8: k of 1 and 3
+ties : viewRow false (line usual identity four (0 ∷ 5 ∷ 1 ∷ 1 ∷ [])) .samples ≡ 23 ∷ 28 ∷ 33 ∷ 40 ∷ []
+unfolding four viewRow seen leftRow limitAt pixelAt shownPixel nearEdge placedAt ownedPixel pairPixel lastPixel tornPixel smoothPixel mixed filtered weighted repeated sampleIn read taps1 taps2 taps3 stepOf kindOf owner limit least place listFrom identity
+ties = refl
+
 -- ---- near edges: of two columns placed at 5 position 1 shows the greater, and its own owner where the place of the column after that is 5 too, or
 -- where the limit is 6; where it would show a torn pair's hole it shows the edge, and no hole
 
@@ -98,8 +115,47 @@ edges :
     × (near (0 ∷ 0 ∷ 0 ∷ 6 ∷ 0 ∷ 0 ∷ []) .samples ≡ 10 ∷ 20 ∷ 50 ∷ 50 ∷ 50 ∷ 60 ∷ [])
     × (near (0 ∷ 5 ∷ 0 ∷ 7 ∷ 0 ∷ 0 ∷ []) .samples ≡ 20 ∷ 40 ∷ 50 ∷ 50 ∷ 50 ∷ 60 ∷ [])
     × (near (0 ∷ 5 ∷ 0 ∷ 7 ∷ 0 ∷ 0 ∷ []) .marks ≡ 0 ∷ 0 ∷ 1 ∷ 1 ∷ 0 ∷ 0 ∷ [])
+    × (near (0 ∷ 5 ∷ 0 ∷ 7 ∷ 0 ∷ 0 ∷ []) .fronts ≡ 5 ∷ 7 ∷ 0 ∷ 0 ∷ 0 ∷ 0 ∷ [])
 unfolding near six viewRow seen leftRow limitAt pixelAt shownPixel nearEdge placedAt ownedPixel pairPixel lastPixel tornPixel smoothPixel mixed filtered weighted repeated sampleIn read taps1 taps2 taps3 stepOf kindOf owner limit least place listFrom identity
-edges = (refl, refl, refl, refl, refl)
+edges = (refl, refl, refl, refl, refl, refl)
+
+-- ---- two rows of nine columns whose views have nothing in common: tables, textures and depths. Every case of a combined sample occurs, a hole in a row's
+-- second byte of marks, and an entry of the reference above 1,023.
+
+unlike : Settings
+unlike = record { w = 9; h = 2; left = identity; right = listOf (λ d. 2 * d) 256; share = 16; tolerance = 3; tear = usual; total = 0 }
+
+unlikePictures : Pictures
+unlikePictures = pictures (listOf (λ i. 10 * i) 18) (listOf (λ i. 1000 - 20 * i) 18) (listOf (λ i. cond (eqb i 17) 2000 500) 18)
+
+unlikeDepths : Depths
+unlikeDepths =
+    depths (5 ∷ 0 ∷ 5 ∷ 0 ∷ 9 ∷ 0 ∷ 1 ∷ 12 ∷ 1 ∷ 12 ∷ 0 ∷ 12 ∷ 12 ∷ 5 ∷ 0 ∷ 0 ∷ 1 ∷ 1 ∷ [])
+    (3 ∷ 0 ∷ 1 ∷ 0 ∷ 5 ∷ 0 ∷ 7 ∷ 3 ∷ 7 ∷ 5 ∷ 1 ∷ 7 ∷ 5 ∷ 7 ∷ 5 ∷ 0 ∷ 1 ∷ 3 ∷ [])
+
+unlikeHeld : Held
+unlikeHeld =
+    held
+    (view (10 ∷ 20 ∷ 40 ∷ 50 ∷ 70 ∷ 80 ∷ 80 ∷ 80 ∷ 80 ∷ 120 ∷ 130 ∷ 130 ∷ 130 ∷ 140 ∷ 140 ∷ 150 ∷ 163 ∷ 170 ∷ [])
+    (0 ∷ 5 ∷ 9 ∷ 0 ∷ 12 ∷ 1 ∷ 1 ∷ 1 ∷ 1 ∷ 12 ∷ 5 ∷ 5 ∷ 5 ∷ 0 ∷ 0 ∷ 0 ∷ 1 ∷ 1 ∷ [])
+    (neg 5 ∷ pos 3 ∷ pos 3 ∷ pos 7 ∷ pos 7 ∷ pos 16 ∷ pos 16 ∷ pos 16 ∷ pos 31 ∷ neg 12 ∷ neg 4 ∷ neg 4 ∷ pos 0 ∷ pos 11 ∷ pos 20 ∷ pos 24 ∷ pos 27 ∷ pos 31 ∷ [])
+    (233 ∷ 0 ∷ 22 ∷ 0 ∷ []))
+    (view (1000 ∷ 1000 ∷ 964 ∷ 940 ∷ 940 ∷ 940 ∷ 940 ∷ 900 ∷ 900 ∷ 820 ∷ 820 ∷ 820 ∷ 800 ∷ 800 ∷ 800 ∷ 755 ∷ 745 ∷ 674 ∷ [])
+    (3 ∷ 3 ∷ 1 ∷ 0 ∷ 0 ∷ 0 ∷ 0 ∷ 0 ∷ 0 ∷ 5 ∷ 5 ∷ 5 ∷ 1 ∷ 1 ∷ 1 ∷ 7 ∷ 7 ∷ 3 ∷ [])
+    (pos 26 ∷ pos 26 ∷ pos 22 ∷ pos 20 ∷ pos 6 ∷ pos 6 ∷ neg 6 ∷ neg 6 ∷ neg 14 ∷ pos 22 ∷ pos 22 ∷ pos 10 ∷ pos 10 ∷ pos 2 ∷ pos 2 ∷ pos 2 ∷ pos 2 ∷ neg 6 ∷ [])
+    (243 ∷ 1 ∷ 63 ∷ 0 ∷ []))
+    (10 ∷ 20 ∷ 40 ∷ 940 ∷ 70 ∷ 940 ∷ 940 ∷ 900 ∷ 80 ∷ 120 ∷ 130 ∷ 130 ∷ 130 ∷ 140 ∷ 140 ∷ 755 ∷ 745 ∷ 296 ∷ [])
+
+unlike-drawn : (fresh unlike unlikePictures unlikeDepths ≡ unlikeHeld) × (freshTotal unlike unlikePictures unlikeDepths ≡ 3252079)
+unfolding unlike unlikePictures unlikeDepths unlikeHeld fresh freshView freshRow freshSample freshCombined totalOf freshTotal rows rowOf sumTo packRow packByte blended bothShown bothHoles combinedOf squareError viewRow seen leftRow limitAt pixelAt shownPixel nearEdge placedAt ownedPixel pairPixel lastPixel tornPixel smoothPixel mixed filtered weighted repeated sampleIn read taps1 taps2 taps3 stepOf kindOf owner limit least place listFrom identity
+unlike-drawn = (refl, refl)
+
+-- what RENDER draws of the right view's first row
+unlike-strip :
+    stripOf 9 (freshRow unlike unlikePictures unlikeDepths true 0)
+    ≡ strip (1000 ∷ 1000 ∷ 964 ∷ 940 ∷ 940 ∷ 940 ∷ 940 ∷ 900 ∷ 900 ∷ []) (243 ∷ 1 ∷ []) (3 ∷ 3 ∷ 1 ∷ 0 ∷ 0 ∷ 0 ∷ 0 ∷ 0 ∷ 0 ∷ [])
+unfolding unlike unlikePictures unlikeDepths stripOf freshRow rowOf packRow packByte viewRow seen leftRow limitAt pixelAt shownPixel nearEdge placedAt ownedPixel pairPixel lastPixel tornPixel smoothPixel mixed filtered weighted repeated sampleIn read taps1 taps2 taps3 stepOf kindOf owner limit least place listFrom identity
+unlike-strip = refl
 
 -- ---- spans: column 2 from depth 0 to 4 spans from a quarter before the place of column 1 to the limit of column 3; to depth 7 from a quarter before
 -- its new place, 1
@@ -110,15 +166,28 @@ edited d = depths (0 ∷ 0 ∷ d ∷ 0 ∷ []) (0 ∷ 0 ∷ 0 ∷ 0 ∷ [])
 spans-left :
     (listOf (spanHas (settings 1) false (block 2 0 1 1) (opening 1) (edited 4) 0) 4 ≡ false ∷ true ∷ true ∷ false ∷ [])
     × (listOf (spanHas (settings 1) false (block 2 0 1 1) (opening 1) (edited 7) 0) 4 ≡ true ∷ true ∷ true ∷ false ∷ [])
-unfolding edited spanHas inSpan leastEdited spanLow spanHigh placesOf place least limit firstColumn entryOf seen rowOf rows settings opening identity listFrom
+unfolding edited spanHas inSpan leastEdited spanLow spanHigh viewPlace place least limit firstColumn entryOf seen rowOf rows settings opening identity listFrom
 spans-left = (refl, refl)
 
 limits-left : listOf (limitMoves (settings 1) false (block 2 0 1 1)) 4 ≡ true ∷ true ∷ true ∷ false ∷ []
 unfolding limitMoves firstColumn entryOf settings listFrom
 limits-left = refl
 
-limits-right : listOf (limitMoves (settings 1) true (block 1 0 1 1)) 4 ≡ false ∷ true ∷ true ∷ true ∷ []
-unfolding limitMoves firstColumn entryOf settings listFrom
+-- The right view, by its own table: reversed columns 6 and 7 are entries 2 and 1, and reversed column 8, entry 0, is placed at 26. To depth 2 the span runs from
+-- a quarter before the place of reversed column 5, 20, to 26; to depth 6 from a quarter before the new place of reversed column 6, 12. With the last reversed
+-- column in the block it runs to the row's end.
+rightward : ℕ → ℕ → ℕ → Depths
+rightward a b c = depths (listOf (λ i. 0) 18) (a ∷ b ∷ c ∷ listOf (λ i. 0) 15)
+
+spans-right :
+    (listOf (spanHas unlike true (block 1 0 2 1) (rightward 3 0 0) (rightward 3 2 2) 0) 9 ≡ false ∷ false ∷ true ∷ true ∷ false ∷ false ∷ false ∷ false ∷ false ∷ [])
+    × (listOf (spanHas unlike true (block 1 0 2 1) (rightward 3 0 0) (rightward 3 6 6) 0) 9 ≡ false ∷ false ∷ true ∷ true ∷ true ∷ true ∷ false ∷ false ∷ false ∷ [])
+    × (listOf (spanHas unlike true (block 0 0 2 1) (rightward 3 0 0) (rightward 6 6 0) 0) 9 ≡ true ∷ true ∷ true ∷ true ∷ true ∷ false ∷ false ∷ false ∷ false ∷ [])
+unfolding unlike rightward spanHas inSpan leastEdited spanLow spanHigh viewPlace place least limit firstColumn entryOf seen rowOf identity listFrom
+spans-right = (refl, refl, refl)
+
+limits-right : listOf (limitMoves unlike true (block 1 0 2 1)) 9 ≡ false ∷ true ∷ true ∷ true ∷ true ∷ true ∷ true ∷ true ∷ true ∷ []
+unfolding unlike limitMoves firstColumn entryOf listFrom
 limits-right = refl
 
 -- ---- filled blocks: 7 stands in region 0, 9 in region 1
@@ -151,11 +220,11 @@ unfolding filled inRegion1 listFrom
 masked = (refl, refl)
 
 -- one value, and a full block
-plain : (filled (block 0 0 3 2) (Flat 5) [] ≡ 5 ∷ 5 ∷ 5 ∷ 5 ∷ 5 ∷ 5 ∷ []) × (filled (block 0 0 2 1) Full (3 ∷ 4 ∷ []) ≡ 3 ∷ 4 ∷ [])
+flat-and-full : (filled (block 0 0 3 2) (Flat 5) [] ≡ 5 ∷ 5 ∷ 5 ∷ 5 ∷ 5 ∷ 5 ∷ []) × (filled (block 0 0 2 1) Full (3 ∷ 4 ∷ []) ≡ 3 ∷ 4 ∷ [])
 unfolding filled listFrom
-plain = (refl, refl)
+flat-and-full = (refl, refl)
 
--- ---- lines: opposite corners are taken, and sides that meet; corners of one side, a point inside the border, and points past the last column or row are not
+-- ---- lines: opposite corners are taken, sides that meet, and opposite sides; corners of one side, a point inside the border, and points past the last column or row are not
 
 abbrev taken : ℕ → ℕ → Point → Point → Bool
 taken width height start end = lineOk (block 5 6 width height) start end
@@ -164,6 +233,8 @@ lines :
     (taken 4 4 (point 0 0) (point 3 3) ≡ true)
     × (taken 4 4 (point 3 0) (point 0 3) ≡ true)
     × (taken 4 4 (point 1 0) (point 0 2) ≡ true)
+    × (taken 4 4 (point 1 0) (point 2 3) ≡ true)
+    × (taken 4 4 (point 0 1) (point 3 2) ≡ true)
     × (taken 2 2 (point 0 0) (point 1 1) ≡ true)
     × (taken 4 4 (point 0 0) (point 3 0) ≡ false)
     × (taken 4 4 (point 3 0) (point 3 3) ≡ false)
@@ -176,7 +247,7 @@ lines :
     × (taken 1 4 (point 0 0) (point 0 3) ≡ false)
     × (taken 4 1 (point 0 0) (point 3 0) ≡ false)
 unfolding lineOk onBorder sideShared
-lines = (refl, refl, refl, refl, refl, refl, refl, refl, refl, refl, refl, refl, refl, refl)
+lines = (refl, refl, refl, refl, refl, refl, refl, refl, refl, refl, refl, refl, refl, refl, refl, refl)
 
 -- ---- refusals: pairs of conditions show the order, 6, then 5, then 7, 14 or 15; one value has none of its own, and a line's bytes are not counted
 
@@ -218,7 +289,7 @@ reports :
     × (report (settings 1) (0 ∷ []) (10 ∷ 21 ∷ 30 ∷ 41 ∷ []) ≡ Difference 0 1)
     × (report (settings 1) (16 ∷ []) four ≡ Difference 0 3)
     × (report (withTotal (settings 1) 1) (0 ∷ []) four ≡ Total)
-unfolding report reportOf firstDifference firstBad sameAt sameView sameMark fresh freshView freshRow freshSample freshCombined totalOf freshTotal viewRow seen leftRow limitAt pixelAt shownPixel nearEdge placedAt ownedPixel pairPixel lastPixel tornPixel smoothPixel mixed filtered weighted repeated sampleIn read taps1 taps2 taps3 stepOf kindOf owner limit least place listFrom rows rowOf sumTo packRow packByte shared bothShown bothHoles combinedOf squareError settings opening images four identity
+unfolding report reportOf firstDifference firstBad sameAt sameView sameMark fresh freshView freshRow freshSample freshCombined totalOf freshTotal viewRow seen leftRow limitAt pixelAt shownPixel nearEdge placedAt ownedPixel pairPixel lastPixel tornPixel smoothPixel mixed filtered weighted repeated sampleIn read taps1 taps2 taps3 stepOf kindOf owner limit least place listFrom rows rowOf sumTo packRow packByte blended bothShown bothHoles combinedOf squareError settings opening images four identity
 reports = (refl, refl, refl, refl)
 
 -- ---- the journal's refusals: 8, 13, 11 in SET, 13, 12, 8 in TAKE BACK, 4, 20, 13, 21 in OPEN. A journal of no words has 13, 11 and 12 at once, word 0 alone 11

@@ -1,6 +1,6 @@
 -- Eight-bit rows under document 02, card 12: samples between two columns are those of card 2 with 255 for the greatest sample, unless that cut them
 -- down to 255. Every other sample is a column's own, which is read as it stands.
---     eight-plain   a column's own sample
+--     eight-read    a column's own sample
 --     eight-cut     the filter of card 2 is that of card 12, cut at 255
 --     eight-same    so that where the latter is at most 255 they are one
 use Prim.Native.Nat.{ℕ, suc, _+_, _-_, _≤_, min}
@@ -43,15 +43,15 @@ cut (pos n) = omega arith
 cut (negsuc n) = omega arith
 
 module _ (s : List ℕ) (eight : (i : ℕ) → getD s i 0 ≤ 255) where
-  pub eight-plain : (c : ℕ) → sampleIn s c ≡ getD s c 0
+  pub eight-read : (c : ℕ) → sampleIn s c ≡ getD s c 0
   unfolding sampleIn
-  eight-plain c = let h = eight c in read-same (getD s c 0) (omega arith)
+  eight-read c = let h = eight c in read-same (getD s c 0) (omega arith)
 
   eight-weighted : (ts : List ℤ) (i : ℕ) → weighted8 ts s i ≡ weighted ts s i
   unfolding weighted8 weighted repeated
   eight-weighted [] i = refl
   eight-weighted (t ∷ ts) i =
-      ap (λ (x : ℕ). t *ℤ pos x +ℤ weighted8 ts s (suc i)) (sym (eight-plain (min (i - 3) (length s - 1))))
+      ap (λ (x : ℕ). t *ℤ pos x +ℤ weighted8 ts s (suc i)) (sym (eight-read (min (i - 3) (length s - 1))))
       ∙ ap (λ (z : ℤ). t *ℤ pos (sampleIn s (min (i - 3) (length s - 1))) +ℤ z) (eight-weighted ts (suc i))
 
   eight-filtered : (ts : List ℤ) (c : ℕ) → filtered8 ts s c ≡ min (filtered ts s c) 255
@@ -60,7 +60,7 @@ module _ (s : List ℕ) (eight : (i : ℕ) → getD s i 0 ≤ 255) where
       ap (λ (z : ℤ). clipped8 (shrZ (z +ℤ pos 32) 64)) (eight-weighted ts c) ∙ cut (shrZ (weighted ts s c +ℤ pos 32) 64)
 
   own-cut : (c : ℕ) → getD s c 0 ≡ min (sampleIn s c) 255
-  own-cut c = let h = eight c in let e = eight-plain c in omega arith
+  own-cut c = let h = eight c in let e = eight-read c in omega arith
 
   pub eight-cut : (c k : ℕ) → mixed8 s c k ≡ min (mixed s c k) 255
   unfolding mixed8 mixed

@@ -16,10 +16,10 @@ or-true true = refl
 or-true false = refl
 
 -- two points of a block of one column or row share that side
-shared : (b : Block) (p q : Point) → (b .width ≡ 1) ⊎ (b .height ≡ 1) → (p .column < b .width) × (p .row < b .height) → (q .column < b .width) × (q .row < b .height) → sideShared b p q ≡ true
+one-side : (b : Block) (p q : Point) → (b .width ≡ 1) ⊎ (b .height ≡ 1) → (p .column < b .width) × (p .row < b .height) → (q .column < b .width) × (q .row < b .height) → sideShared b p q ≡ true
 unfolding sideShared
-shared b p q (inl e) f g = rw (eq-eqb (p .column) 0 (omega arith), eq-eqb (q .column) 0 (omega arith))
-shared b p q (inr e) f g = rw (eq-eqb (p .row) 0 (omega arith), eq-eqb (q .row) 0 (omega arith), or-true)
+one-side b p q (inl e) f g = rw (eq-eqb (p .column) 0 (omega arith), eq-eqb (q .column) 0 (omega arith))
+one-side b p q (inr e) f g = rw (eq-eqb (p .row) 0 (omega arith), eq-eqb (q .row) 0 (omega arith), or-true)
 
 pub no-line : (b : Block) (p q : Point) → (b .width ≡ 1) ⊎ (b .height ≡ 1) → lineOk b p q ≡ false
 unfolding lineOk
@@ -28,5 +28,5 @@ no-line b p q thin =
     (λ t.
     let f = border-inside b p (and-left (onBorder b p) _ t) in
     let g = border-inside b q (and-right (onBorder b p) _ t) in
-    rw (t, shared b p q thin f g))
+    rw (t, one-side b p q thin f g))
     (λ e. rw e)

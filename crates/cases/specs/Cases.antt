@@ -22,7 +22,7 @@ use Rattle.model.specs.Planes.{Pictures, Depths, pictures, depths}
 use Rattle.model.specs.Refusals.{journalOk}
 use Rattle.run.specs.Run.{Call, Plain, plain, plainNext, plainReply}
 use Rattle.run.specs.Run.Call.{get, set, move}
-use Rattle.run.specs.Shared.{SharedCall, SharedPlain, opened, standsAs, totalOf, sharedNext, sharedReply}
+use Rattle.run.specs.Shared.{SharedCall, SharedPlain, opened, standsAs, plainTotal, sharedNext, sharedReply}
 
 -- a call of a session and the change that it has to answer
 pub record Step : Type 0 where
@@ -30,7 +30,7 @@ pub record Step : Type 0 where
   pub change : ℤ
 
 -- a call of a session with one journal; the number and change that it has to answer, and the total and the journal's words that it leaves
-pub record Kept : Type 0 where
+pub record SharedStep : Type 0 where
   pub call : SharedCall
   pub number : ℕ
   pub change : ℤ
@@ -43,7 +43,7 @@ pub data Case : Type 0 where
   torn : String → Tear → Bool → List ℕ → List ℕ → List ℕ → List ℕ → Case
   mix : String → ℕ → ℕ → ℕ → ℕ → ℕ → ℕ → ℕ → Case
   session : String → ℕ → List Step → ℕ → Case
-  journaled : String → List ℕ → List Kept → Case
+  journaled : String → List ℕ → List SharedStep → Case
   journal : String → List ℕ → Bool → Case
 
 -- Document 02, card 11: the widest smooth gap and the nearest torn distance, 8 and 1 in document 01's cases.
@@ -114,14 +114,14 @@ abbrev MOVE : Settings → List ℕ → Step
 MOVE to reference = record { call = move to reference (0 ∷ []); change = pos 0 }
 
 -- the same with one journal: a SET of column 2 in the left view, TAKE BACK and MOVE; number, change, total and words
-abbrev SETS : ℕ → ℕ → ℤ → ℕ → List ℕ → Kept
+abbrev SETS : ℕ → ℕ → ℤ → ℕ → List ℕ → SharedStep
 SETS depth number change total words =
     record { call = SharedCall.set 0 (only 2) Full (depth ∷ []); number = number; change = change; total = total; words = words }
 
-abbrev BACK : ℕ → ℤ → ℕ → List ℕ → Kept
+abbrev BACK : ℕ → ℤ → ℕ → List ℕ → SharedStep
 BACK number change total words = record { call = SharedCall.takeBack; number = number; change = change; total = total; words = words }
 
-abbrev MOVES : Tear → List ℕ → ℕ → ℕ → List ℕ → Kept
+abbrev MOVES : Tear → List ℕ → ℕ → ℕ → List ℕ → SharedStep
 MOVES e reference number total words =
     record { call = SharedCall.move (tearing e) reference; number = number; change = pos 0; total = total; words = words }
 
@@ -250,19 +250,19 @@ sameChange a b = leZ a b && leZ b a
 
 -- the calls are accepted and answer these changes, and the plain record ends with this total
 unfoldable pub holdsFrom : Plain → List Step → ℕ → Bool
-holdsFrom r [] total = eqb (totalOf r) total
+holdsFrom r [] total = eqb (plainTotal r) total
 holdsFrom r (k ∷ ks) total =
     (eqb (plainReply r (k .call) .number) 0 && sameChange (plainReply r (k .call) .change) (k .change)) && holdsFrom (plainNext r (k .call)) ks total
 
 -- each call answers its number and change, and leaves its total and words
-unfoldable pub keptFrom : SharedPlain → List Kept → Bool
-keptFrom r [] = true
-keptFrom r (k ∷ ks) =
+unfoldable pub sharedHoldsFrom : SharedPlain → List SharedStep → Bool
+sharedHoldsFrom r [] = true
+sharedHoldsFrom r (k ∷ ks) =
     let reply = sharedReply r (k .call) in
     let next = sharedNext r (k .call) in
     (eqb (reply .number) (k .number) && sameChange (reply .change) (k .change))
-    && (eqb (totalOf (standsAs next)) (k .total) && same (next .journal) (k .words))
-    && keptFrom next ks
+    && (eqb (plainTotal (standsAs next)) (k .total) && same (next .journal) (k .words))
+    && sharedHoldsFrom next ks
 
 abbrev agree : Bool → Bool → Bool
 agree true b = b
@@ -273,7 +273,7 @@ holds (torn name e right texture depths samples marks) =
     same (viewRow right (line e identity texture depths) .samples) samples && same (viewRow right (line e identity texture depths) .marks) marks
 holds (mix name share tolerance ld rd ls rs combined) = eqb (combinedOf share tolerance (pixel ls 0 ld) (pixel rs 0 rd)) combined
 holds (session name h steps total) = holdsFrom (start h) steps total
-holds (journaled name words steps) = keptFrom (opened (start 1) words) steps
+holds (journaled name words steps) = sharedHoldsFrom (opened (start 1) words) steps
 holds (journal name words sound) = agree (journalOk (settings 1) words) sound
 
 unfoldable pub allHold : List Case → Bool

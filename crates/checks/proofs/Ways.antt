@@ -12,7 +12,7 @@ use Rattle.model.specs.Planes.{Pictures, Depths, Held, area, withTotal}
 use Rattle.model.specs.Fresh.{fresh, freshTotal}
 use Rattle.model.specs.Refusals.{numberOf, reportNumber, checkNumber}
 use Rattle.model.specs.Reports.{firstDifference, reportOf}
-use Rattle.model.specs.Promises.{CheckPost}
+use Rattle.model.specs.Promises.{MarkBytes, CheckPost}
 use Rattle.model.proofs.Choice.{bool-cases}
 use Rattle.model.proofs.Fresh.{fresh-total, freshTotal-total}
 use Rattle.validate.specs.Numbers.{commonNumber}
@@ -29,8 +29,8 @@ report-number s p d h =
     (λ e. rw e (bool-cases (eqb (s .total) (freshTotal s p d)) (λ q. rw q) (λ q. rw q)))
 
 module _ (s : Settings) (p : Pictures) (d : Depths) (h : Held) where
-  pub refused : (r : Refusal) → numberOf r ≡ commonNumber (s .w) (s .h) (s .left) (s .right) (s .share) (s .tear) (lengthsOf p d h) 0 → (numberOf r ≡ 0 → ⊥) → CheckPost s p d h (Refused r)
-  refused r e ne = record { number = e ∙ common-number s p d h 0; report = λ z. absurd (ne z) }
+  pub refused : (r : Refusal) → numberOf r ≡ commonNumber (s .w) (s .h) (s .left) (s .right) (s .share) (s .tear) (lengthsOf p d h) 0 → (numberOf r ≡ 0 → ⊥) → MarkBytes h → CheckPost s p d h (Refused r)
+  refused r e ne bytes = record { number = e ∙ common-number s p d h 0; report = λ z. absurd (ne z); bytes = bytes }
 
   -- the tests do not look at the total
   pub accepted : commonNumber (s .w) (s .h) (s .left) (s .right) (s .share) (s .tear) (lengthsOf p d h) 0 ≡ 0 → checkNumber (withTotal s 0) p d h ≡ 0
@@ -53,10 +53,11 @@ module _ (s : Settings) (p : Pictures) (d : Depths) (h : Held) where
       let t : f .sum ≡ freshTotal s p d = a .sum-is g ∙ freshTotal-total s 0 p d in
       rw (q, g, t))
 
-  pub reported : (f : Found) (r : Report) → commonNumber (s .w) (s .h) (s .left) (s .right) (s .share) (s .tear) (lengthsOf p d h) 0 ≡ 0 → Walked (withTotal s 0) p d h f → r ≡ verdictOf (f .place) (f .sum) (s .total) → CheckPost s p d h r
-  reported f r e a q =
+  pub reported : (f : Found) (r : Report) → commonNumber (s .w) (s .h) (s .left) (s .right) (s .share) (s .tear) (lengthsOf p d h) 0 ≡ 0 → Walked (withTotal s 0) p d h f → r ≡ verdictOf (f .place) (f .sum) (s .total) → MarkBytes h → CheckPost s p d h r
+  reported f r e a q bytes =
       let is : r ≡ reportOf s p d h = q ∙ verdict-is f a in
       record {
         number = ap reportNumber is ∙ report-number s p d h ∙ sym e ∙ common-number s p d h 0;
         report = λ _. is;
+        bytes = bytes;
       }

@@ -16,8 +16,8 @@ use Rattle.checks.specs.declared.Place.the-variants.{None, At}
 use Rattle.checks.specs.declared.Found.{Found}
 
 -- the settings that a drawing looks at: all but the total
-abbrev pub settingsOf : ℕ → ℕ → List ℕ → List ℕ → ℕ → ℕ → Tear → Settings
-settingsOf w h left right share tolerance tear =
+abbrev pub drawingSettings : ℕ → ℕ → List ℕ → List ℕ → ℕ → ℕ → Tear → Settings
+drawingSettings w h left right share tolerance tear =
     record { w = w; h = h; left = left; right = right; share = share; tolerance = tolerance; tear = tear; total = 0 }
 
 -- entry k of n entries in rows of w, or none

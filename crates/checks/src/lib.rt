@@ -12,7 +12,7 @@ ghost use Rattle.model.specs.Refusals.{checkNumber};
 ghost use Rattle.model.specs.Promises.{CheckPost};
 ghost use Rattle.sums.specs.Squares.{Squares};
 ghost use Rattle.draw.specs.Drawn.{Table, drawnRow};
-ghost use Rattle.checks.specs.Walks.{settingsOf, Walked, verdictOf};
+ghost use Rattle.checks.specs.Walks.{drawingSettings, Walked, verdictOf};
 
 // Where the first difference lies, if there is one.
 pub enum Place {
@@ -107,13 +107,13 @@ fn walk(
     combined: &[u16],
 ) -> Found
     requires { ⌜ Squares (now squares) ⌝ }
-    requires { ⌜ checkNumber (settingsOf w h (now leftTable) (now rightTable) share tolerance tear)
+    requires { ⌜ checkNumber (drawingSettings w h (now leftTable) (now rightTable) share tolerance tear)
         (pictures (now left) (now right) (now reference))
         (depths (now leftDepths) (now rightDepths))
         (held (view (now leftSamples) (now leftFronts) (now leftLimits) (now leftMarks))
         (view (now rightSamples) (now rightFronts) (now rightLimits) (now rightMarks))
         (now combined)) ≡ 0 ⌝ }
-    ensures { λ r. ⌜ Walked (settingsOf w h (now (leftTable .entry)) (now (rightTable .entry)) share tolerance tear)
+    ensures { λ r. ⌜ Walked (drawingSettings w h (now (leftTable .entry)) (now (rightTable .entry)) share tolerance tear)
         (pictures (now (left .entry)) (now (right .entry)) (now (reference .entry)))
         (depths (now (leftDepths .entry)) (now (rightDepths .entry)))
         (held (view (now (leftSamples .entry)) (now (leftFronts .entry)) (now (leftLimits .entry)) (now (leftMarks .entry)))

@@ -158,6 +158,6 @@ module _ (tear : Tear) (right : Bool) (t : List ℕ) (share tolerance w y x from
         combined = again;
         others = done .others;
         others-combined = kept-combined;
-        low = done .low;
-        low-combined = λ l. rw put (low-splice c (y * w + from) _ (omega (arith, fit, within)) l low);
+        bounded = done .bounded;
+        combined-samples = rw put (low-splice c (y * w + from) _ (omega (arith, fit, within)) low);
       }

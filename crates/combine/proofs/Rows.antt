@@ -17,15 +17,17 @@ use Rattle.model.specs.declared.Tear.{Tear}
 use Rattle.model.specs.declared.Block.{Block}
 use Rattle.model.specs.Lists.{rowOf}
 use Rattle.model.specs.Marks.{markBytes}
-use Rattle.model.specs.Planes.{View, view, viewRows, readAll}
+use Rattle.model.specs.Planes.{View, view, viewRows, readAll, NoneHigher}
 use Rattle.model.specs.Blocks.{inRows, writtenPlane}
+use Rattle.model.specs.Span.{firstColumn}
 use Rattle.model.proofs.Choice.{lt-or-le, and-false}
 use Rattle.model.proofs.Lists.{rows-apart, length-plane-row, plane-ext}
 use Rattle.model.proofs.Written.{length-written, rows-under, rows-beyond, written-row-out, written-row-in}
-use Rattle.planes.specs.Parts.{splice, Low}
+use Rattle.planes.specs.Parts.{splice}
+use Rattle.planes.proofs.Read.{none-then}
 use Rattle.planes.proofs.Splices.{row-splice, row-other}
-use Rattle.commit.specs.Commit.{Sized, SoundRow, heldAt, heldIn}
-use Rattle.commit.proofs.Planes.{same-row}
+use Rattle.commit.specs.Commit.{Sized, SoundRow, heldAt, heldIn, Bounded}
+use Rattle.commit.proofs.Planes.{same-row, bounded-none, bounded-then}
 use Rattle.combine.specs.Combine.{combinedRow, ViewIn, OtherSized, BlockIn, RowSet, BlockSet}
 
 -- row j of a block's depths is as wide as the block
@@ -52,11 +54,11 @@ pub record Through (tear : Tear) (right : Bool) (t : List ℕ) (share tolerance 
   pub combined : (k : ℕ) → SoundRow tear right t texture w d₀ v₀ k → readAll (rowOf c₀ w k) ≡ combinedRow right share tolerance (heldIn w v₀ k) (heldAt w s₂ f₂ m₂ k) w → readAll (rowOf c w k) ≡ combinedRow right share tolerance (heldIn w v k) (heldAt w s₂ f₂ m₂ k) w
   pub others : (k : ℕ) → (k < b .row) ⊎ (b .row + j ≤ k) → viewRows w v k ≡ viewRows w v₀ k
   pub others-combined : (k : ℕ) → (k < b .row) ⊎ (b .row + j ≤ k) → rowOf c w k ≡ rowOf c₀ w k
-  pub low : Low (v₀ .samples) → Low (v .samples)
-  pub low-combined : Low c₀ → Low c
+  pub bounded : Bounded right w (firstColumn right w (b .column) (b .width) + b .width) v₀ v
+  pub combined-samples : NoneHigher c₀ c
 
 pub through-none : {tear : Tear} {right : Bool} {t : List ℕ} {share tolerance w h : ℕ} {b : Block} {texture candidate s₂ f₂ m₂ d : List ℕ} {v : View} {c : List ℕ} → Sized w h texture d v → OtherSized w h s₂ f₂ m₂ c → Through tear right t share tolerance w h b 0 texture candidate s₂ f₂ m₂ d d v v c c
-through-none s o =
+through-none {right = right} {w = w} {b = b} {v = v} s o =
     record {
       row = omega arith;
       size = s;
@@ -67,8 +69,8 @@ through-none s o =
       combined = λ k h e. e;
       others = λ k h. refl;
       others-combined = λ k h. refl;
-      low = λ l. l;
-      low-combined = λ l. l;
+      bounded = bounded-none right w (firstColumn right w (b .column) (b .width) + b .width) v;
+      combined-samples = λ i. inr refl;
     }
 
 module _ {tear : Tear} {right : Bool} {t : List ℕ} {share tolerance w h : ℕ} {b : Block} {j : ℕ} {texture candidate s₂ f₂ m₂ d₀ d d′ : List ℕ} {v₀ v v′ : View} {c₀ c c′ : List ℕ} (through : Through tear right t share tolerance w h b j texture candidate s₂ f₂ m₂ d₀ d v₀ v c₀ c) (block : BlockIn w h b candidate) (start : length d₀ ≡ w * h) (less : j < b .height) (set : RowSet tear right t share tolerance w (b .row + j) (b .column) texture (rowOf candidate (b .width) j) s₂ f₂ m₂ d d′ v v′ c c′) where
@@ -116,8 +118,8 @@ module _ {tear : Tear} {right : Bool} {t : List ℕ} {share tolerance w h : ℕ}
         combined = λ k p e. set .combined k (through .sound k p) (through .combined k p e);
         others = λ k p. set .others k (other-one k p) ∙ through .others k (outer k p);
         others-combined = λ k p. set .others-combined k (other-one k p) ∙ through .others-combined k (outer k p);
-        low = λ l. set .low (through .low l);
-        low-combined = λ l. set .low-combined (through .low-combined l);
+        bounded = bounded-then right w (firstColumn right w (b .column) (b .width) + b .width) v₀ v v′ (through .bounded) (rw (row-wide block less) at (set .bounded));
+        combined-samples = none-then c₀ c c′ (through .combined-samples) (set .combined-samples);
       }
     where
       earlier : (k : ℕ) → k < b .row + (j + 1) → (k ≡ b .row + j → ⊥) → k < b .row + j
@@ -148,8 +150,8 @@ module _ {tear : Tear} {right : Bool} {t : List ℕ} {share tolerance w h : ℕ}
         combined = through .combined;
         others = λ k e. through .others k (rows-beside b k e);
         others-combined = λ k e. through .others-combined k (rows-beside b k e);
-        low = through .low;
-        low-combined = through .low-combined;
+        bounded = through .bounded;
+        combined-samples = through .combined-samples;
         size = through .size;
         other = through .other;
       }

@@ -2,15 +2,17 @@
 -- entry passes for it.
 --     own-sized                                       what set_block requires of the view's own planes, from what the refusals leave
 --     set-depths                                      the depths are the written ones
---     set-untouched                                   whatever the planes hold, the other view and the rows outside the block are as they were
+--     set-updated                                     what holds of them whatever the planes held
 --     set-read, set-fresh                             planes that were the fresh drawing, as they are read or as they stand, are that of the written
 --                                                     depths
-use Prim.Native.Nat.{ℕ, _<_, _≤_}
+use Prim.Native.Nat.{ℕ, _*_, _<_, _≤_}
 use mathlib.Core.Path.{_≡_, refl, sym, ap, _∙_}
 use mathlib.Core.Bool.{Bool, true, false, not}
 use mathlib.Core.List.{List}
 use native.Mathlib.Nat.{mul-comm}
 use lib.IntN.{pos}
+use lib.ListN.{length}
+use borrow.Author.Tests.{ltb-false}
 use Rattle.model.specs.declared.Settings.{Settings}
 use Rattle.model.specs.declared.Block.{Block}
 use Rattle.model.specs.declared.Pixel.{Pixel}
@@ -18,18 +20,19 @@ use Rattle.model.specs.Lists.{listOf, rowOf}
 use Rattle.model.specs.Views.{isRight}
 use Rattle.model.specs.Marks.{markBytes}
 use Rattle.model.specs.Combined.{combinedOf}
-use Rattle.model.specs.Planes.{Pictures, Depths, View, Held, depths, held, tableOf, textureOf, depthsOf, viewOf, readAll, readView, readHeld, viewRows, heldRow}
+use Rattle.model.specs.Planes.{Pictures, Depths, View, Held, depths, area, tableOf, textureOf, depthsOf, viewOf, withView, readAll, readView, readHeld, viewRows, heldRow}
 use Rattle.model.specs.Fresh.{freshRow, freshView, shownAt, freshSample, freshCombined, fresh}
-use Rattle.model.specs.Blocks.{inRows, writtenPlane, written}
-use Rattle.model.specs.Promises.{Untouched}
+use Rattle.model.specs.Blocks.{writtenPlane, written}
+use Rattle.model.specs.Span.{limitMoves}
+use Rattle.model.specs.Promises.{Updated}
 use Rattle.model.proofs.Lists.{list-same, plane-ext}
 use Rattle.model.proofs.Fresh.{DepthsSized, row-fresh-samples, row-fresh-fronts, row-fresh-limits, row-fresh-marks, length-fresh-samples, length-fresh-fronts, length-fresh-limits, length-fresh-marks, row-fresh-combined, length-fresh-combined, view-fresh}
 use Rattle.model.proofs.Readings.{length-readAll, readAll-row, view-read, fresh-read}
 use Rattle.model.proofs.Written.{written-own, written-other}
 use Rattle.model.proofs.Locality.{sized-written}
-use Rattle.model.proofs.Refusals.{Common}
+use Rattle.model.proofs.Refusals.{ViewOf, HeldOf, held-yes, Common}
 use Rattle.planes.specs.Parts.{Low}
-use Rattle.planes.proofs.Read.{read-low, low-read}
+use Rattle.planes.proofs.Read.{read-low, low-read, low-kept}
 use Rattle.planes.proofs.Views.{view-same}
 use Rattle.marks.proofs.Held.{held-fresh}
 use Rattle.sums.specs.Sides.{paired}
@@ -66,24 +69,22 @@ abbrev pub withDepths : Bool → Depths → List ℕ → Depths
 withDepths true d x = depths (d .left) x
 withDepths false d x = depths x (d .right)
 
--- what is held, with other planes for the view and another combined picture
-abbrev pub withView : Bool → Held → View → List ℕ → Held
-withView true h x c = held (h .left) x c
-withView false h x c = held x (h .right) c
-
 module _ (s : Settings) (v : ℕ) (b : Block) (c : List ℕ) (d : Depths) (x : List ℕ) where
   depths-by : (r : Bool) → isRight v ≡ r → x ≡ writtenPlane (s .w) b c (depthsOf d r) → withDepths r d x ≡ written s v b c d
   unfolding written
   depths-by true e h = rw (e, h)
   depths-by false e h = rw (e, h)
 
-module _ (s : Settings) (v : ℕ) (b : Block) (h : Held) (x : View) (c : List ℕ) (same : (y : ℕ) → inRows b y ≡ false → rowOf c (s .w) y ≡ rowOf (h .combined) (s .w) y) where
-  untouched-by : (r : Bool) → isRight v ≡ r → ((y : ℕ) → inRows b y ≡ false → viewRows (s .w) x y ≡ viewRows (s .w) (viewOf h r) y) → Untouched s v b h (withView r h x c)
+-- the rows of what is held, and its lengths, from those of the view and of the combined picture
+module _ (h : Held) (x : View) (c : List ℕ) where
+  row-by : (r : Bool) (w y : ℕ) → viewRows w x y ≡ viewRows w (viewOf h r) y → rowOf c w y ≡ rowOf (h .combined) w y → heldRow w (withView r h x c) y ≡ heldRow w h y
   unfolding heldRow
-  untouched-by true e rest =
-      record { left = λ i. refl; right = λ i. cc; rows = λ y i. let a = rest y i in let k = same y i in rw (a, k) }
-  untouched-by false e rest =
-      record { left = λ i. cc; right = λ i. refl; rows = λ y i. let a = rest y i in let k = same y i in rw (a, k) }
+  row-by true w y e k = rw (e, k)
+  row-by false w y e k = rw (e, k)
+
+  held-by : (r : Bool) (n m : ℕ) → HeldOf n m h → ViewOf n m x → length c ≡ n → HeldOf n m (withView r h x c)
+  held-by true n m was own e = record { left = was .left; right = own; combined = e }
+  held-by false n m was own e = record { left = own; right = was .right; combined = e }
 
 -- ---- the fresh drawing by its rows
 
@@ -154,8 +155,23 @@ module _ (s : Settings) (p : Pictures) (d₀ : Depths) (h₀ : Held) (v : ℕ) (
   pub set-depths : withDepths r d₀ d′ ≡ written s v b c d₀
   set-depths = depths-by s v b c d₀ d′ r side (set .depths)
 
-  pub set-untouched : Untouched s v b h₀ (withView r h₀ v′ c′)
-  set-untouched = untouched-by s v b h₀ v′ c′ (set .others-combined) r side (set .others)
+  pub set-updated : HeldOf (area s) (markBytes (s .w) * s .h) h₀ → Updated s v b h₀ (withView r h₀ v′ c′)
+  unfolding limitMoves
+  set-updated was =
+      let own : ViewOf (area s) (markBytes (s .w) * s .h) v′ =
+      record { samples = set .size .samples; fronts = set .size .fronts; limits = set .size .limits; marks = set .size .marks } in
+      rw (← side)
+      (record {
+        own = v′;
+        combined = c′;
+        held = refl;
+        rows = λ y e. rw (← side) at (row-by h₀ v′ c′ r (s .w) y (set .others y e) (set .others-combined y e));
+        lengths = rw (← side) at (held-yes (area s) (markBytes (s .w) * s .h) (withView r h₀ v′ c′) (held-by h₀ v′ c′ r (area s) (markBytes (s .w) * s .h) was own (set .other .combined)));
+        samples = rw (← side) at (set .bounded .samples);
+        combined-samples = set .combined-samples;
+        limits = λ y x e. (rw (← side) at (set .bounded .limits)) y x (ltb-false _ _ e);
+        spare-bits = rw (← side) at (set .bounded .spare-bits);
+      })
 
   module _ (sized : DepthsSized s d₀) (sound : readHeld h₀ ≡ fresh s p d₀) where
     abbrev after : Depths
@@ -202,5 +218,7 @@ module _ (s : Settings) (p : Pictures) (d₀ : Depths) (h₀ : Held) (v : ℕ) (
   set-fresh sized share sound =
       let as-read = ap readHeld sound ∙ fresh-read s p d₀ sized share in
       let still = as-read ∙ sym sound in
-      sym (low-by h₀ v′ c′ r (set .low (low-view h₀ still r)) (low-view h₀ still (not r)) (set .low-combined (low-picture h₀ still)))
+      let own = low-kept (viewOf h₀ r .samples) (v′ .samples) (set .bounded .samples) (low-view h₀ still r) in
+      let combined = low-kept (h₀ .combined) c′ (set .combined-samples) (low-picture h₀ still) in
+      sym (low-by h₀ v′ c′ r own (low-view h₀ still (not r)) combined)
       ∙ set-read sized as-read

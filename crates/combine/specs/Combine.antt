@@ -9,11 +9,12 @@ use Rattle.model.specs.declared.Pixel.{Pixel}
 use Rattle.model.specs.declared.Block.{Block}
 use Rattle.model.specs.Lists.{listOf, rowOf}
 use Rattle.model.specs.Marks.{markBytes}
-use Rattle.model.specs.Planes.{View, readAll, viewRows}
+use Rattle.model.specs.Planes.{View, readAll, NoneHigher, viewRows}
 use Rattle.model.specs.Blocks.{inRows, writtenPlane}
-use Rattle.planes.specs.Parts.{splice, Low}
+use Rattle.model.specs.Span.{firstColumn}
+use Rattle.planes.specs.Parts.{splice}
 use Rattle.sums.specs.Sides.{paired}
-use Rattle.commit.specs.Commit.{Sized, SoundRow, heldAt, heldIn}
+use Rattle.commit.specs.Commit.{Sized, SoundRow, heldAt, heldIn, Bounded}
 
 -- the combined row of w entries, of what the one view and the other hold
 unfoldable pub combinedRow : Bool → ℕ → ℕ → (ℕ → Pixel) → (ℕ → Pixel) → ℕ → List ℕ
@@ -40,27 +41,27 @@ pub record BlockIn (w h : ℕ) (b : Block) (candidate : List ℕ) : Type 0 where
   pub size : length candidate ≡ b .width * b .height
 
 -- Row y is set: the candidate stands at its column x, every row that was sound is sound again, and where its combined row was made of what
--- the two views hold, it is so again, as it is read. No other row changes, and no sample above the greatest is written. The other view's planes
--- are s₂, f₂ and m₂.
+-- the two views hold, it is so again, as it is read. No other row changes, and no combined sample above the greatest is written. The other view's
+-- planes are s₂, f₂ and m₂.
 pub record RowSet (tear : Tear) (right : Bool) (t : List ℕ) (share tolerance w y x : ℕ) (texture candidate s₂ f₂ m₂ d d′ : List ℕ) (v v′ : View) (c c′ : List ℕ) : Type 0 where
   pub depths : d′ ≡ splice d (y * w + x) candidate
   pub sound : (k : ℕ) → SoundRow tear right t texture w d v k → SoundRow tear right t texture w d′ v′ k
   pub combined : (k : ℕ) → SoundRow tear right t texture w d v k → readAll (rowOf c w k) ≡ combinedRow right share tolerance (heldIn w v k) (heldAt w s₂ f₂ m₂ k) w → readAll (rowOf c′ w k) ≡ combinedRow right share tolerance (heldIn w v′ k) (heldAt w s₂ f₂ m₂ k) w
   pub others : (k : ℕ) → (k ≡ y → ⊥) → viewRows w v′ k ≡ viewRows w v k
   pub others-combined : (k : ℕ) → (k ≡ y → ⊥) → rowOf c′ w k ≡ rowOf c w k
-  pub low : Low (v .samples) → Low (v′ .samples)
-  pub low-combined : Low c → Low c′
+  pub bounded : Bounded right w (firstColumn right w x (length candidate) + length candidate) v v′
+  pub combined-samples : NoneHigher c c′
 
 -- The block is set: whatever the planes hold, the depths are written in the block only and the rows outside it are as they were; rows that
--- were sound are sound again, and their combined rows are again made of what the two views hold, as they are read. No sample above the greatest
--- is written. All planes keep their sizes.
+-- were sound are sound again, and their combined rows are again made of what the two views hold, as they are read. No combined sample above the
+-- greatest is written. All planes keep their sizes.
 pub record BlockSet (tear : Tear) (right : Bool) (t : List ℕ) (share tolerance w h : ℕ) (b : Block) (texture candidate s₂ f₂ m₂ d d′ : List ℕ) (v v′ : View) (c c′ : List ℕ) : Type 0 where
   pub depths : d′ ≡ writtenPlane w b candidate d
   pub sound : (k : ℕ) → SoundRow tear right t texture w d v k → SoundRow tear right t texture w d′ v′ k
   pub combined : (k : ℕ) → SoundRow tear right t texture w d v k → readAll (rowOf c w k) ≡ combinedRow right share tolerance (heldIn w v k) (heldAt w s₂ f₂ m₂ k) w → readAll (rowOf c′ w k) ≡ combinedRow right share tolerance (heldIn w v′ k) (heldAt w s₂ f₂ m₂ k) w
   pub others : (k : ℕ) → inRows b k ≡ false → viewRows w v′ k ≡ viewRows w v k
   pub others-combined : (k : ℕ) → inRows b k ≡ false → rowOf c′ w k ≡ rowOf c w k
-  pub low : Low (v .samples) → Low (v′ .samples)
-  pub low-combined : Low c → Low c′
+  pub bounded : Bounded right w (firstColumn right w (b .column) (b .width) + b .width) v v′
+  pub combined-samples : NoneHigher c c′
   pub size : Sized w h texture d′ v′
   pub other : OtherSized w h s₂ f₂ m₂ c′

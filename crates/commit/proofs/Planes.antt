@@ -1,5 +1,6 @@
 -- The planes of one view after one row was written and drawn again.
 --     sized-row          a row of planes that have their sizes
+--     bounded-none, bounded-then, bounded-here     whatever they held, no sample above the greatest is written, and limits beyond the block and spare bits stay
 --     row-commits        every row that was sound is sound, and nothing outside the span's entries of the one row is drawn anew
 use Prim.Native.Nat.{ℕ, _+_, _*_, _<_, _≤_}
 use mathlib.Core.Path.{_≡_, refl, sym, ap, subst, _∙_}
@@ -8,28 +9,30 @@ use mathlib.Core.Logic.{⊎-elim, _⊎_, inl, inr}
 use mathlib.Core.List.{List, append-assoc}
 use native.Mathlib.Omega.{arith}
 use native.Mathlib.Nat.{mul-comm}
-use lib.ListN.{length, getD, take, drop}
+use lib.ListN.{length, getD, take, drop, List·getD-eq-default}
 use lib.Seq.{take-length, drop-drop, paste}
+use lib.IntN.{ℤ, pos}
 use Rattle.model.specs.declared.Tear.{Tear}
 use Rattle.model.specs.declared.Pixel.{Pixel}
 use Rattle.model.specs.Lists.{rowOf}
 use Rattle.model.specs.Row.{line, sampleIn, leftRow}
-use Rattle.model.specs.Views.{seen, viewRow}
-use Rattle.model.specs.Marks.{markBytes, packRow, markAt}
+use Rattle.model.specs.Views.{seen, viewRow, entryOf}
+use Rattle.model.specs.Marks.{markBytes, packRow, markAt, spareBits}
 use Rattle.model.specs.Planes.{View, readAll, viewRows}
+use Rattle.model.specs.Span.{firstColumn}
 use Rattle.model.proofs.Choice.{lt-or-le}
 use Rattle.model.proofs.Lists.{rows-apart, length-row}
-use Rattle.model.proofs.Views.{length-view-marks}
+use Rattle.model.proofs.Views.{entry-within, entry-entry, getD-seen, length-view-marks}
 use Rattle.model.proofs.Packing.{Flags, mark-packRow}
 use Rattle.model.proofs.Fresh.{flags-view}
 use Rattle.planes.specs.Parts.{splice}
-use Rattle.planes.proofs.Read.{read-put, low-splice}
+use Rattle.planes.proofs.Read.{read-put, low-splice, none-then}
 use Rattle.planes.proofs.Splices.{splice-under, splice-beyond, row-splice, row-other}
 use Rattle.model.specs.Refusals.{tableOk}
 use Rattle.pixel.specs.declared.Edge.{Edge}
 use Rattle.marks.specs.Puts.{putMarks, heldPixel}
-use Rattle.marks.proofs.Puts.{put-packRow}
-use Rattle.commit.specs.Commit.{Sized, RowIn, drawnRow, SoundRow, heldIn, Changed, spanShown, RowRedrawn, RowCommitted}
+use Rattle.marks.proofs.Puts.{spare-putMarks, put-packRow}
+use Rattle.commit.specs.Commit.{Sized, RowIn, drawnRow, SoundRow, heldIn, Bounded, Changed, spanShown, RowRedrawn, RowCommitted}
 use Rattle.commit.proofs.Shown.{length-shown, flags-shown, low-shown}
 use Rattle.commit.proofs.Rows.{RowStep, shown-fits, limits-new, plane-new}
 
@@ -67,6 +70,24 @@ pub same-row : (k y : ℕ) → (k ≡ y) ⊎ (k ≡ y → ⊥)
 same-row k y =
     ⊎-elim (λ u. inr (λ e. omega arith))
     (λ u. ⊎-elim (λ v. inr (λ e. omega arith)) (λ v. let e : k ≡ y = omega arith in inl e) (lt-or-le y k)) (lt-or-le k y)
+
+-- ---- what holds whatever the planes held
+
+pub bounded-none : (r : Bool) (w n : ℕ) (v : View) → Bounded r w n v v
+bounded-none r w n v = record { samples = λ i. inr refl; limits = λ k i h. refl; spare-bits = λ k. refl }
+
+pub bounded-then : (r : Bool) (w n : ℕ) (u v v′ : View) → Bounded r w n u v → Bounded r w n v v′ → Bounded r w n u v′
+bounded-then r w n u v v′ first then =
+    record {
+      samples = none-then (u .samples) (v .samples) (v′ .samples) (first .samples) (then .samples);
+      limits = λ k i h. then .limits k i h ∙ first .limits k i h;
+      spare-bits = λ k. then .spare-bits k ∙ first .spare-bits k;
+    }
+
+-- an entry of a row, as the view reads it
+entry-seen : (r : Bool) (w i : ℕ) (l : List ℤ) → length l ≡ w → i < w → getD (seen r l) (entryOf r w i) (pos 0) ≡ getD l i (pos 0)
+entry-seen r w i l e h =
+    getD-seen (pos 0) r l (entryOf r w i) (rw e (entry-within r w i h)) ∙ ap (λ (k : ℕ). getD l k (pos 0)) (rw e (entry-entry r w i h))
 
 module _ (tear : Tear) (r : Bool) (t texture : List ℕ) (w y x n low : ℕ) (edge : Edge) (from to : ℕ) (candidate d d′ : List ℕ) (v v′ : View) (table : tableOk t ≡ true) (size : RowIn w y texture d v) (most : w ≤ 4096) (some : 0 < length candidate) (fits : x + length candidate ≤ w) (same : length (v′ .limits) ≡ length (v .limits)) (change : Changed r t w y x candidate d d′ (v .limits) (v′ .limits) n low edge) (redraw : RowRedrawn r (line tear t (seen r (rowOf texture w y)) (seen r (rowOf d′ w y))) w y n low edge from to (v .samples) (v .fronts) (v .marks) (v′ .samples) (v′ .fronts) (v′ .marks)) where
   step : RowStep r t w x n low edge from to candidate (rowOf d w y) (rowOf d′ w y) (rowOf (v .limits) w y) (rowOf (v′ .limits) w y)
@@ -179,6 +200,34 @@ module _ (tear : Tear) (r : Bool) (t texture : List ℕ) (w y x n low : ℕ) (ed
           marks = ap (λ (q : View). q .marks) e ∙ rw depths-other (s .marks);
         }
 
+  -- a limit from column n on
+  limit-stays : (i : ℕ) → n ≤ entryOf r w i → getD (rowOf (v′ .limits) w y) i (pos 0) ≡ getD (rowOf (v .limits) w y) i (pos 0)
+  limit-stays i h =
+      let before = length-row (v .limits) w y (size .limits) in
+      let after = length-row (v′ .limits) w y (rw same (size .limits)) in
+      ⊎-elim
+      (λ u.
+      sym (entry-seen r w i (rowOf (v′ .limits) w y) after u) ∙ change .limits .written .beyond (entryOf r w i) h ∙ entry-seen r w i (rowOf (v .limits) w y) before u)
+      (λ u. List·getD-eq-default (rowOf (v′ .limits) w y) (pos 0) {n = i} (rw after u) ∙ sym (List·getD-eq-default (rowOf (v .limits) w y) (pos 0) {n = i} (rw before u)))
+      (lt-or-le i w)
+
+  spare-stays : spareBits (rowOf (v′ .marks) (markBytes w) y) w ≡ spareBits (rowOf (v .marks) (markBytes w) y) w
+  spare-stays =
+      ap (λ (m : List ℕ). spareBits m w) (redraw .drawn .marks)
+      ∙ spare-putMarks (rowOf (v .marks) (markBytes w) y) w from _ (flags-shown r _ n edge _ _) _ (omega (arith, redraw .drawn .stretched .size, redraw .drawn .stretched .within))
+
+  bounded-here : Bounded r w (firstColumn r w x (length candidate) + length candidate) v v′
+  bounded-here =
+      record {
+        samples = rw (redraw .drawn .samples) (low-splice (v .samples) (y * w + from) _ (omega (arith, fit (λ q. q .sample), size .samples)) (low-shown r _ n edge _ _));
+        limits = λ k i h. ⊎-elim
+            (λ e. rw e (limit-stays i (rw (change .columns) h)))
+            (λ ne. ap (λ (l : List ℤ). getD l i (pos 0)) (change .others k ne)) (same-row k y);
+        spare-bits = λ k. ⊎-elim
+            (λ e. rw e spare-stays)
+            (λ ne. ap (λ (m : List ℕ). spareBits m w) (redraw .others k ne)) (same-row k y);
+      }
+
   pub row-commits : RowCommitted tear r t texture w y x candidate d d′ v v′ from to
   row-commits =
       record {
@@ -189,6 +238,6 @@ module _ (tear : Tear) (r : Bool) (t texture : List ℕ) (w y x n low : ℕ) (ed
         others = others-kept;
         order = omega (arith, redraw .drawn .stretched .size);
         within = redraw .drawn .stretched .within;
-        low = λ low. rw (redraw .drawn .samples) (low-splice (v .samples) (y * w + from) _ (omega (arith, fit (λ q. q .sample), size .samples)) low (low-shown r _ n edge _ _));
+        bounded = bounded-here;
         kept = kept-here;
       }

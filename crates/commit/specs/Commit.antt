@@ -12,11 +12,11 @@ use Rattle.model.specs.declared.Tear.{Tear}
 use Rattle.model.specs.declared.Pixel.{Pixel}
 use Rattle.model.specs.Lists.{listOf, rowOf}
 use Rattle.model.specs.Row.{Line, line, Row, place, signed}
-use Rattle.model.specs.Views.{seen, viewRow}
-use Rattle.model.specs.Marks.{markBytes, packRow}
-use Rattle.model.specs.Planes.{View, readAll, viewRows}
+use Rattle.model.specs.Views.{seen, viewRow, entryOf}
+use Rattle.model.specs.Marks.{markBytes, packRow, spareBits}
+use Rattle.model.specs.Planes.{View, readAll, NoneHigher, viewRows}
 use Rattle.model.specs.Span.{spanLow, firstColumn}
-use Rattle.planes.specs.Parts.{splice, Filled, Low}
+use Rattle.planes.specs.Parts.{splice, Filled}
 use Rattle.signed.specs.Limits.{raisedOf}
 use Rattle.pixel.specs.declared.Edge.{Edge}
 use Rattle.marks.specs.Puts.{putMarks, heldPixel}
@@ -60,6 +60,13 @@ heldAt w s f m y = heldPixel (rowOf s w y) (rowOf f w y) (rowOf m (markBytes w) 
 -- and what a view's do
 abbrev pub heldIn : ℕ → View → ℕ → ℕ → Pixel
 heldIn w v = heldAt w (v .samples) (v .fronts) (v .marks)
+
+-- What holds of a view's planes, w wide, whatever they held, once columns below n are edited, as the view reads the rows: no sample above the greatest is
+-- written, and the limits from column n on and the spare bits are as they were.
+pub record Bounded (right : Bool) (w n : ℕ) (v v′ : View) : Type 0 where
+  pub samples : NoneHigher (v .samples) (v′ .samples)
+  pub limits : (k i : ℕ) → n ≤ entryOf right w i → getD (rowOf (v′ .limits) w k) i (pos 0) ≡ getD (rowOf (v .limits) w k) i (pos 0)
+  pub spare-bits : (k : ℕ) → spareBits (rowOf (v′ .marks) (markBytes w) k) w ≡ spareBits (rowOf (v .marks) (markBytes w) k) w
 
 -- ---- one row
 
@@ -139,12 +146,12 @@ pub record RowRedrawn (right : Bool) (l : Line) (w y n low : ℕ) (edge : Edge) 
   pub others : (k : ℕ) → (k ≡ y → ⊥) → rowOf m′ (markBytes w) k ≡ rowOf m (markBytes w) k
 
 -- Row y of one view is committed: the candidate stands at its column x, and every row that was sound is sound again. No other row changes,
--- and of this one only the entries `from` up to `to` are drawn anew, with no sample above the greatest.
+-- and of this one only the entries `from` up to `to` are drawn anew.
 pub record RowCommitted (tear : Tear) (right : Bool) (t texture : List ℕ) (w y x : ℕ) (candidate d d′ : List ℕ) (v v′ : View) (from to : ℕ) : Type 0 where
   pub depths : d′ ≡ splice d (y * w + x) candidate
   pub sound : (k : ℕ) → SoundRow tear right t texture w d v k → SoundRow tear right t texture w d′ v′ k
   pub others : (k : ℕ) → (k ≡ y → ⊥) → viewRows w v′ k ≡ viewRows w v k
   pub order : from ≤ to
   pub within : to ≤ w
-  pub low : Low (v .samples) → Low (v′ .samples)
+  pub bounded : Bounded right w (firstColumn right w x (length candidate) + length candidate) v v′
   pub kept : SoundRow tear right t texture w d v y → (i : ℕ) → i < w → (i < from) ⊎ (to ≤ i) → heldIn w v′ y i ≡ heldIn w v y i

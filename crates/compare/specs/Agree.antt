@@ -5,7 +5,7 @@ use lib.Dec.{eqb}
 use lib.IntN.{ℤ, pos}
 use lib.Signed.{leZ}
 use lib.ListN.{length, getD, take}
-use Rattle.model.specs.Lists.{rowOf}
+use Rattle.model.specs.Lists.{rowOf, entryAt}
 use Rattle.model.specs.Marks.{markBytes}
 use Rattle.model.specs.Planes.{View, Held}
 use Rattle.model.specs.Reports.{sameMark}
@@ -17,13 +17,13 @@ sameValue a b = leZ a b && leZ b a
 -- all that is held of a view at column x of row y is what the drawn row has at column x
 unfoldable pub agrees : ℕ → View → View → ℕ → ℕ → Bool
 agrees w v row y x =
-    (eqb (getD (v .samples) (y * w + x) 0) (getD (row .samples) x 0) && eqb (getD (v .fronts) (y * w + x) 0) (getD (row .fronts) x 0))
-    && (sameValue (getD (v .limits) (y * w + x) (pos 0)) (getD (row .limits) x (pos 0)) && sameMark w (rowOf (v .marks) (markBytes w) y) (take (markBytes w) (row .marks)) x)
+    (eqb (entryAt (v .samples) w y x 0) (getD (row .samples) x 0) && eqb (entryAt (v .fronts) w y x 0) (getD (row .fronts) x 0))
+    && (sameValue (entryAt (v .limits) w y x (pos 0)) (getD (row .limits) x (pos 0)) && sameMark w (rowOf (v .marks) (markBytes w) y) (take (markBytes w) (row .marks)) x)
 
 -- and of both views, and the combined sample
 unfoldable pub allAgree : ℕ → Held → View → View → ℕ → ℕ → ℕ → Bool
 allAgree w h left right shown y x =
-    agrees w (h .left) left y x && (agrees w (h .right) right y x && eqb (getD (h .combined) (y * w + x) 0) shown)
+    agrees w (h .left) left y x && (agrees w (h .right) right y x && eqb (entryAt (h .combined) w y x 0) shown)
 
 -- column x of row y lies in a view's planes
 pub record HeldAt (w : ℕ) (v : View) (y x : ℕ) : Type 0 where

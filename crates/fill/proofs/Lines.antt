@@ -33,18 +33,18 @@ spread : (b m d n : ℕ) → (b + m) * (d + n) ≡ b * d + b * n + (m * d + m * 
 spread b m d n = omega (arith, add-mul b m (d + n), mul-add b d n, mul-add m d n)
 
 -- a number as a difference
-plain : (x y n : ℕ) → x ≡ n + y → subℕ x y ≡ pos n
-plain x y n e = let m : x - y ≡ n = omega arith in rw (le-ltb x y (omega arith), m)
+positive : (x y n : ℕ) → x ≡ n + y → subℕ x y ≡ pos n
+positive x y n e = let m : x - y ≡ n = omega arith in rw (le-ltb x y (omega arith), m)
 
 turned : (x y n : ℕ) → n + x ≡ y → subℕ x y ≡ negℤ (pos n)
-turned x y n e = sym (subℕ-swap y x) ∙ ap negℤ (plain y x n (sym e))
+turned x y n e = sym (subℕ-swap y x) ∙ ap negℤ (positive y x n (sym e))
 
 -- each factor above or below 0
 times-over-over : (b m d n : ℕ) → subℕ (b + m) b *ℤ subℕ (d + n) d ≡ subℕ ((b + m) * (d + n) + b * d) ((b + m) * d + b * (d + n))
 times-over-over b m d n =
     rw (over b m, over d n)
     (pos-*ℤ-pos m n
-    ∙ sym (plain ((b + m) * (d + n) + b * d) ((b + m) * d + b * (d + n)) (m * n) (omega (arith, spread b m d n, add-mul b m d, mul-add b d n))))
+    ∙ sym (positive ((b + m) * (d + n) + b * d) ((b + m) * d + b * (d + n)) (m * n) (omega (arith, spread b m d n, add-mul b m d, mul-add b d n))))
 
 times-over-under : (b m c n : ℕ) → subℕ (b + m) b *ℤ subℕ c (c + suc n) ≡ subℕ ((b + m) * c + b * (c + suc n)) ((b + m) * (c + suc n) + b * c)
 times-over-under b m c n =
@@ -62,7 +62,7 @@ times-under-under : (a m c n : ℕ) → subℕ a (a + suc m) *ℤ subℕ c (c + 
 times-under-under a m c n =
     rw (under a m, under c n)
     (negsuc-*ℤ-negsuc m n
-    ∙ sym (plain (a * c + (a + suc m) * (c + suc n)) (a * (c + suc n) + (a + suc m) * c) (suc m * suc n) (omega (arith, spread a (suc m) c (suc n), add-mul a (suc m) c, mul-add a c (suc n)))))
+    ∙ sym (positive (a * c + (a + suc m) * (c + suc n)) (a * (c + suc n) + (a + suc m) * c) (suc m * suc n) (omega (arith, spread a (suc m) c (suc n), add-mul a (suc m) c, mul-add a c (suc n)))))
 
 module _ (a b c d : ℕ) where
   abbrev Product : Type 0

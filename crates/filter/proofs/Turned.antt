@@ -79,9 +79,9 @@ module _ (s : List ℕ) (c : ℕ) (inside : c + 1 < length s) where
       (weighted-turned ts (seen true s) s c turned (λ j h. rw n (turned-at j (omega (arith, n)))))
 
   -- and a plain sample the one as far from the other end
-  plain-turned : (i j : ℕ) → i + j + 1 ≡ length s → sampleIn (seen true s) i ≡ sampleIn s j
+  sample-turned : (i j : ℕ) → i + j + 1 ≡ length s → sampleIn (seen true s) i ≡ sampleIn s j
   unfolding entryOf
-  plain-turned i j e =
+  sample-turned i j e =
       let q : length s - 1 - i ≡ j = omega arith in
       sampleIn-seen true s i (omega arith) ∙ ap (sampleIn s) q
 
@@ -89,9 +89,9 @@ module _ (s : List ℕ) (c : ℕ) (inside : c + 1 < length s) where
   unfolding mixed taps1 taps2 taps3
   mixed-turned k h =
       ⊎-elim
-      (λ a. let e : k ≡ 0 = omega arith in rw e (plain-turned c (turned + 1) (omega arith)))
+      (λ a. let e : k ≡ 0 = omega arith in rw e (sample-turned c (turned + 1) (omega arith)))
       (λ a. ⊎-elim
       (λ b. by-step (λ k. mixed (seen true s) c k ≡ mixed s turned (4 - k)) (filtered-turned taps1 refl) (filtered-turned taps2 refl) (filtered-turned taps3 refl) k a (omega arith))
-      (λ b. let e : k ≡ 4 = omega arith in rw e (plain-turned (c + 1) turned (omega arith)))
+      (λ b. let e : k ≡ 4 = omega arith in rw e (sample-turned (c + 1) turned (omega arith)))
       (lt-or-le k 4))
       (lt-or-le k 1)

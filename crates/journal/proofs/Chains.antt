@@ -3,7 +3,6 @@
 --     own-inside, record-inside                                  what they show
 --     chain-refused, chain-still, chain-next                     one step along the chain
 --     journal-empty, journal-some, newest-end                    the journal, and the end of its newest record
---     room-..                                                    11
 --     saving-.., taking-..                                       the numbers by their tests
 use Prim.Native.Nat.{ℕ, _+_, _-_, _*_, _<_, _≤_}
 use mathlib.Core.Path.{_≡_, sym, _∙_}
@@ -13,13 +12,13 @@ use native.Mathlib.Omega.{arith}
 use native.Mathlib.Nat.{mul-le-mul}
 use lib.Dec.{leb}
 use lib.ListN.{length, take, drop}
-use borrow.Author.Tests.{le-leb, lt-leb, leb-true, lt-ltb, le-ltb, ltb-true, eq-eqb, ne-eqb}
+use borrow.Author.Tests.{le-leb, lt-leb, lt-ltb, le-ltb, eq-eqb, ne-eqb}
 use Rattle.model.specs.declared.Settings.{Settings}
 use Rattle.model.specs.declared.Block.{Block}
 use Rattle.model.specs.Candidates.{positions}
-use Rattle.model.specs.Journals.{newest, indexBefore, recordView, recordBlock, recordDepths, recordSize, recordEnd, nextIndex}
+use Rattle.model.specs.Journals.{newest, indexBefore, recordView, recordBlock, recordDepths, recordEnd, nextIndex}
 use Rattle.model.specs.Refusals.{upTo, viewOk, blockOk, recordOk, chainOk, journalOk, roomOk, savingThen, takingThen}
-use Rattle.model.proofs.Choice.{not-true, and-true, and-left, and-right, and-off}
+use Rattle.model.proofs.Choice.{not-true, and-left, and-right, and-off}
 use Rattle.model.proofs.Refusals.{Inside, unless-true, unless-rest, block-facts}
 use Rattle.model.proofs.Journals.{chain-step, next-after, record-facts}
 use Rattle.validate.specs.Numbers.{sides, ownNumber}
@@ -94,29 +93,6 @@ journal-some s j l = rw (lt-ltb 0 (length j) (omega arith))
 
 pub newest-end : (j : List ℕ) → (newest j ≡ 0 → ⊥) → nextIndex j ≤ length j → recordEnd j (newest j) ≤ length j
 newest-end j ne h = rw (next-after j ne) at h
-
--- ---- the room for a new record
-
-module _ (b : Block) (j : List ℕ) where
-  pub room-short : length j < nextIndex j + recordSize b → roomOk b j ≡ false
-  unfolding roomOk
-  room-short l = rw (lt-leb (nextIndex j + recordSize b) (length j) l)
-
-  pub room-far : 4294967296 ≤ nextIndex j → roomOk b j ≡ false
-  unfolding roomOk
-  room-far l = and-off (leb (nextIndex j + recordSize b) (length j)) _ (le-ltb (nextIndex j) 4294967296 l)
-
-  pub room-yes : nextIndex j + recordSize b ≤ length j → nextIndex j < 4294967296 → roomOk b j ≡ true
-  unfolding roomOk
-  room-yes l k = and-true _ _ (le-leb (nextIndex j + recordSize b) (length j) l) (lt-ltb (nextIndex j) 4294967296 k)
-
-  pub room-end : roomOk b j ≡ true → nextIndex j + recordSize b ≤ length j
-  unfolding roomOk
-  room-end e = leb-true (nextIndex j + recordSize b) (length j) (and-left (leb (nextIndex j + recordSize b) (length j)) _ e)
-
-  pub room-index : roomOk b j ≡ true → nextIndex j < 4294967296
-  unfolding roomOk
-  room-index e = ltb-true (nextIndex j) 4294967296 (and-right (leb (nextIndex j + recordSize b) (length j)) _ e)
 
 -- ---- 13, 11, 12
 

@@ -1,6 +1,7 @@
 -- One bit of a byte, set.
 --     one-shl, clear-le, putBit-lt     what the code's arithmetic asks
 --     putBit-step                      below the lowest bit
+--     put-above                        the bits above it stay
 --     put-packByte                     a bit is set in the packed byte as the mark is in the list
 use Prim.Native.Nat.{ℕ, zero, suc, _+_, _-_, _*_, _/_, _%_, _^_, _<_, _≤_}
 use mathlib.Core.Path.{_≡_, sym, ap, _∙_, subst}
@@ -43,6 +44,25 @@ putBit-lt (suc n) b (suc k) v hb hk hv =
     let ih = putBit-lt n (b / 2) k v (omega arith) (omega arith) hv in
     let s = putBit-step (b % 2) (b / 2) k v low in
     subst (λ (x : ℕ). putBit x (suc k) v < 2 ^ suc n) (sym e) (rw (s, pow-succ' 2 n) (omega arith))
+
+pub put-above : (b k j v : ℕ) → k < j → v < 2 → putBit b k v / 2 ^ j ≡ b / 2 ^ j
+put-above b k zero v hk hv = absurd (not-suc-le-zero hk)
+put-above b zero (suc j) v hk hv =
+    let e : b ≡ b % 2 + 2 * (b / 2) = omega arith in
+    let low : b % 2 < 2 = omega arith in
+    let put : putBit b 0 v ≡ v + 2 * (b / 2) = first b v in
+    rw put (div-step v (b / 2) j hv ∙ sym (ap (λ (x : ℕ). x / 2 ^ suc j) e ∙ div-step (b % 2) (b / 2) j low))
+  where
+    first : (b v : ℕ) → b - b / 1 % 2 * 1 + v * 1 ≡ v + 2 * (b / 2)
+    first b v = omega arith
+put-above b (suc k) (suc j) v hk hv =
+    let e : b ≡ b % 2 + 2 * (b / 2) = omega arith in
+    let low : b % 2 < 2 = omega arith in
+    ap (λ (x : ℕ). putBit x (suc k) v / 2 ^ suc j) e
+    ∙ ap (λ (x : ℕ). x / 2 ^ suc j) (putBit-step (b % 2) (b / 2) k v low)
+    ∙ div-step (b % 2) (putBit (b / 2) k v) j low
+    ∙ put-above (b / 2) k j v (le-of-suc-le-suc hk) hv
+    ∙ sym (ap (λ (x : ℕ). x / 2 ^ suc j) e ∙ div-step (b % 2) (b / 2) j low)
 
 pub put-packByte : (l : List ℕ) (k v : ℕ) → Flags l → k < length l → putBit (packByte l) k v ≡ packByte (set l k v)
 unfolding packByte

@@ -3,22 +3,46 @@
 --     put-packRow       and so is a stretch of marks
 --     put-cleared       marks put into a cleared row are the packed row
 --     length-putMarks   the row keeps its bytes
-use Prim.Native.Nat.{ℕ, zero, suc, _+_, _-_, _*_, _<_, _≤_}
+--     spare-putMarks    and its spare bits
+use Prim.Native.Nat.{ℕ, zero, suc, _+_, _-_, _*_, _/_, _%_, _^_, _<_, _≤_}
 use mathlib.Core.Path.{_≡_, refl, ap, _∙_}
+use mathlib.Core.Logic.{⊎-elim}
 use mathlib.Core.List.{List, [], _∷_, _++_, append-nil}
 use native.Mathlib.Nat.{le-add-right, zero-add}
 use native.Mathlib.Omega.{arith}
-use lib.ListN.{length, getD, set, take, drop, length-set, length-take, length-drop, replicate, length-replicate}
-use lib.Seq.{getD-drop, take-set-lt, drop-set-lt, take-set-le, drop-set-add, paste, paste-zero, paste-suc, length-paste, take-length, drop-length}
-use Rattle.model.specs.Marks.{packByte, packRow}
+use lib.ListN.{length, getD, set, take, drop, length-set, length-take, length-drop, replicate, length-replicate, List·getD-eq-default}
+use lib.Seq.{getD-set-same, getD-set-other, getD-drop, take-set-lt, drop-set-lt, take-set-le, drop-set-add, paste, paste-zero, paste-suc, length-paste, take-length, drop-length}
+use Rattle.model.specs.Marks.{packByte, packRow, spareBits}
+use Rattle.model.proofs.Choice.{lt-or-le}
 use Rattle.model.proofs.Packing.{Flags, flags-take, flags-drop, by-byte, quot-low, rest-low, quot-high, rest-high}
-use Rattle.marks.specs.Puts.{setMark, putMarks}
-use Rattle.marks.proofs.Bits.{put-packByte}
+use Rattle.marks.specs.Puts.{putBit, setMark, putMarks}
+use Rattle.marks.proofs.Bits.{put-above, put-packByte}
 
 pub length-putMarks : (row : List ℕ) (start : ℕ) (ms : List ℕ) (n : ℕ) → length (putMarks row start ms n) ≡ length row
 unfolding putMarks
 length-putMarks row start ms zero = refl
 length-putMarks row start ms (suc n) = (simp length-set) ∙ length-putMarks row start ms n
+
+-- a mark that is set leaves the bits past position w − 1
+spare-set : (row : List ℕ) (w p v : ℕ) → p < w → v < 2 → spareBits (setMark row p v) w ≡ spareBits row w
+spare-set row w p v h k =
+    ⊎-elim
+    (λ u. ap (λ (b : ℕ). b / 2 ^ (w % 8)) (getD-set-other row (p / 8) (w / 8) _ 0 (λ e. omega arith)))
+    (λ u.
+    let e : w / 8 ≡ p / 8 = omega arith in
+    let less : p % 8 < w % 8 = omega arith in
+    ⊎-elim
+    (λ l. rw e (ap (λ (b : ℕ). b / 2 ^ (w % 8)) (getD-set-same row (p / 8) (putBit (getD row (p / 8) 0) (p % 8) v) 0 l) ∙ put-above (getD row (p / 8) 0) (p % 8) (w % 8) v less k))
+    (λ l.
+    rw (e, List·getD-eq-default (setMark row p v) 0 {n = p / 8} (rw (length-set row (p / 8) (putBit (getD row (p / 8) 0) (p % 8) v)) l), List·getD-eq-default row 0 {n = p / 8} l))
+    (lt-or-le (p / 8) (length row)))
+    (lt-or-le (p / 8) (w / 8))
+
+pub spare-putMarks : (row : List ℕ) (w start : ℕ) (ms : List ℕ) → Flags ms → (n : ℕ) → start + n ≤ w → spareBits (putMarks row start ms n) w ≡ spareBits row w
+unfolding putMarks
+spare-putMarks row w start ms h zero k = refl
+spare-putMarks row w start ms h (suc n) k =
+    spare-set (putMarks row start ms n) w (start + n) (getD ms n 0) (omega arith) (h n) ∙ spare-putMarks row w start ms h n (omega arith)
 
 pub set-packRow : (n : ℕ) (ms : List ℕ) (v : ℕ) → Flags ms → (p : ℕ) → p < 8 * n → p < length ms → setMark (packRow n ms) p v ≡ packRow n (set ms p v)
 unfolding packRow

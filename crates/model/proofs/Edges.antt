@@ -11,7 +11,7 @@ use native.Mathlib.Nat.{not-suc-le-zero}
 use lib.Dec.{ltb}
 use borrow.Author.Tests.{lt-leb, lt-ltb, le-ltb, eq-eqb, ne-eqb}
 use Rattle.model.specs.declared.Pixel.{Pixel}
-use Rattle.model.specs.Row.{Line, width, placeIn, limit, quarter, plain, ownedPixel, placedAt, nearEdge, shownPixel}
+use Rattle.model.specs.Row.{Line, width, placeIn, limit, quarter, columnPixel, ownedPixel, placedAt, nearEdge, shownPixel}
 use Rattle.model.proofs.Choice.{bool-cases, lt-or-le, and-off}
 use Rattle.model.proofs.Owners.{Owns, owns-unique, owns-stretch, limit-above, above-limit}
 
@@ -44,7 +44,7 @@ module _ {f : ℕ → ℕ} {w x c e : ℕ} (o : Owns f w x c) (q : Owns f w (x +
 
 -- what x shows, where column c owns it and column e the next quarter
 unfoldable pub byOwners : Line → ℕ → ℕ → ℕ → Pixel
-byOwners l c e x = cond (ltb c e && ltb (x + 1) (placeIn l (c + 1))) (plain l e 0) (ownedPixel l c x)
+byOwners l c e x = cond (ltb c e && ltb (x + 1) (placeIn l (c + 1))) (columnPixel l e 0) (ownedPixel l c x)
 
 pub near-owners : (l : Line) (x c e : ℕ) → x + 1 < quarter (width l) → Owns (placeIn l) (width l) x c → Owns (placeIn l) (width l) (x + 1) e → shownPixel l c x ≡ byOwners l c e x
 unfolding shownPixel nearEdge byOwners

@@ -142,7 +142,7 @@ length-newest n j = length-listOf _ (length j)
 
 pub word-newest : (n : ℕ) (j : List ℕ) → 0 < length j → newest (withNewest n j) ≡ n
 unfolding withNewest
-word-newest n j h = getD-listOf 0 (λ i. cond (eqb i 0) n (wordAt j i)) (length j) 0 h
+word-newest n j h = getD-listOf 0 _ (length j) 0 h
 
 -- word 0 set
 pub set-newest : (n : ℕ) (j : List ℕ) → set j 0 n ≡ withNewest n j

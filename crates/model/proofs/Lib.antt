@@ -17,5 +17,7 @@ pub mod Candidates
 pub mod Journals
 pub mod Pairs
 pub mod Reports
+pub mod Verdicts
 pub mod Readings
 pub mod Promises
+pub mod Examples

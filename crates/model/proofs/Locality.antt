@@ -23,7 +23,7 @@ use Rattle.model.specs.Combined.{combinedOf}
 use Rattle.model.specs.Planes.{Pictures, Depths, tableOf, textureOf, depthsOf}
 use Rattle.model.specs.Fresh.{lineOf, freshRow, shownAt, freshSample, freshTotal}
 use Rattle.model.specs.Blocks.{inRows, written}
-use Rattle.model.specs.Span.{firstColumn, placesOf, spanHas, limitMoves}
+use Rattle.model.specs.Span.{firstColumn, viewPlace, spanHas, limitMoves}
 use Rattle.model.proofs.Choice.{bool-cases, and-false}
 use Rattle.model.proofs.Lists.{rows-apart}
 use Rattle.model.proofs.Sums.{sum-same, sum-add}
@@ -88,7 +88,7 @@ module _ (s : Settings) (p : Pictures) (d : Depths) (v : ℕ) (b : Block) (c : L
     seen-wide y h = length-seen (isRight v) (rowOf (depthsOf d (isRight v)) (s .w) y) ∙ wide s p d sized (isRight v) y h
 
     own-shown : (y x : ℕ) → y < s .h → x < s .w → spanHas s (isRight v) b d after y x ≡ false → shownAt (freshRow s p after (isRight v) y) x ≡ shownAt (freshRow s p d (isRight v) y) x
-    unfolding freshRow spanHas placesOf first
+    unfolding freshRow spanHas viewPlace first
     own-shown y x h k e =
         let r : Bool = isRight v in
         let l : Line = lineOf s p d r y in

@@ -13,7 +13,7 @@ use lib.IntN.{subℕ}
 use borrow.Author.Tests.{lt-ltb, le-ltb, lt-leb}
 use Rattle.model.specs.declared.Kind.the-variants.{Hidden, Smooth, Torn}
 use Rattle.model.specs.declared.Pixel.{Pixel}
-use Rattle.model.specs.Row.{Line, placeIn, place, kindOf, plain, pairPixel, tornPixel}
+use Rattle.model.specs.Row.{Line, placeIn, place, kindOf, columnPixel, pairPixel, tornPixel}
 use Rattle.model.proofs.Choice.{lt-or-le}
 use Rattle.model.proofs.Owners.{Owns}
 
@@ -72,7 +72,7 @@ level-smooth l c h hc e = kind-smooth (l .tear .gap) (placeIn l c) (placeIn l (c
 -- what a torn pair shows beyond the distance is the one of its columns with the smaller disparity
 pub record Far (l : Line) (c j : ℕ) (shown : Pixel) : Type 0 where
   pub farther : disparityIn l j < disparityIn l c
-  pub fills : shown ≡ plain l j 1
+  pub fills : shown ≡ columnPixel l j 1
 
 pub torn-far : (l : Line) (c t : ℕ) → 4 ≤ l .tear .gap → disparityIn l c ≤ 1023 → disparityIn l (c + 1) ≤ 1023 → kindOf (l .tear .gap) (subℕ (placeIn l (c + 1)) (placeIn l c)) ≡ Torn → l .tear .distance < t → Far l c (c + 1) (pairPixel l c t)
 unfolding place pairPixel tornPixel

@@ -1,10 +1,11 @@
 -- The refusals: each test as plain facts, and what a number of a list says of the tests.
 --     ..-yes, ..-facts                    a test from its facts, and the facts from the test
 --     Before, common-before, ..           a number that applies is the same whatever follows in the list; where none applies, what follows decides
---     call-late, call-early               8 decides exactly where nothing before it does
---     view-first, block-next, ..          the first that applies wins
+--     call-late, call-early, taken-..     8 decides exactly where nothing before it does
+--     size-first, .., view-first, ..      the first that applies wins
+--     room-..                             11 applies exactly where words are too few or the index passes 32 bits
 --     in-range-sound                      in a sound session 8 never applies
-use Prim.Native.Nat.{ℕ, zero, suc, _+_, _*_, _≤_}
+use Prim.Native.Nat.{ℕ, zero, suc, _+_, _*_, _<_, _≤_}
 use mathlib.Core.Path.{_≡_, refl, ap, sym, _∙_}
 use mathlib.Core.Bool.{Bool, true, false, _&&_}
 use mathlib.Core.List.{List, [], _∷_}
@@ -14,7 +15,7 @@ use native.Mathlib.Nat.{mul-le-mul}
 use lib.ListN.{length, getD}
 use lib.Dec.{leb, eqb}
 use lib.IntN.{ℤ, pos, _+ℤ_, _-ℤ_, +ℤ-comm, -ℤ-+ℤ-cancel}
-use borrow.Author.Tests.{le-leb, leb-true, eq-eqb, eqb-true, eqb-false}
+use borrow.Author.Tests.{le-leb, lt-leb, leb-true, lt-ltb, le-ltb, ltb-true, eq-eqb, eqb-true, eqb-false}
 use Rattle.model.specs.declared.Tear.{Tear}
 use Rattle.model.specs.declared.Settings.{Settings}
 use Rattle.model.specs.declared.Block.{Block}
@@ -25,8 +26,9 @@ use Rattle.model.specs.Marks.{markBytes}
 use Rattle.model.specs.Combined.{worst}
 use Rattle.model.specs.Planes.{Pictures, Depths, View, Held, area, withTotal}
 use Rattle.model.specs.Candidates.{positions, lineOk}
-use Rattle.model.specs.Refusals.{unless, sideOk, sizeOk, picturesSized, depthsSized, viewSized, heldSized, planesSized, upTo, tableOk, tablesOk, shareOk, tearOk, blockOk, viewOk, candidateThen, within, inRange, journalOk, roomOk, someRecord, commonThen, ownThen, savingThen, takingThen, openNumber, earlyNumber, callThen}
-use Rattle.model.proofs.Choice.{bool-cases, and-true, and-left, and-right}
+use Rattle.model.specs.Journals.{recordSize, nextIndex}
+use Rattle.model.specs.Refusals.{unless, sideOk, sizeOk, picturesSized, depthsSized, viewSized, heldSized, planesSized, upTo, tableOk, tablesOk, shareOk, tearOk, blockOk, viewOk, candidateThen, within, inRange, wordsOk, journalOk, roomOk, someRecord, commonThen, ownThen, savingThen, takingThen, openNumber, earlyNumber, callThen, takeBackNumber, takeBackEarly}
+use Rattle.model.proofs.Choice.{bool-cases, and-true, and-left, and-right, and-off}
 use Rattle.model.proofs.Fresh.{DepthsOf}
 
 -- ---- one test of a list
@@ -254,6 +256,53 @@ area-most s h = mul-le-mul (h .w .most) (h .h .most)
 pub marks-most : (s : Settings) → Size s → markBytes (s .w) * s .h ≤ 2097152
 marks-most s h = let m : markBytes (s .w) ≤ 512 = omega (arith, h .w .most) in mul-le-mul m (h .h .most)
 
+-- ---- the first that applies wins: 1, 2, 3, 4, 20
+
+module _ (s : Settings) (p : Pictures) (d : Depths) (h : Held) (rest : ℕ) where
+  pub size-first : sizeOk s ≡ false → commonThen s p d h rest ≡ 1
+  unfolding commonThen
+  size-first e = rw e
+
+  pub planes-next : sizeOk s ≡ true → planesSized s p d h ≡ false → commonThen s p d h rest ≡ 2
+  unfolding commonThen
+  planes-next e f = rw (e, f)
+
+  pub tables-next : sizeOk s ≡ true → planesSized s p d h ≡ true → tablesOk s ≡ false → commonThen s p d h rest ≡ 3
+  unfolding commonThen
+  tables-next e f g = rw (e, f, g)
+
+  pub share-next : sizeOk s ≡ true → planesSized s p d h ≡ true → tablesOk s ≡ true → shareOk s ≡ false → commonThen s p d h rest ≡ 4
+  unfolding commonThen
+  share-next e f g k = rw (e, f, g, k)
+
+  pub gap-next :
+      sizeOk s ≡ true → planesSized s p d h ≡ true → tablesOk s ≡ true → shareOk s ≡ true → tearOk (s .tear) ≡ false → commonThen s p d h rest ≡ 20
+  unfolding commonThen
+  gap-next e f g k l = rw (e, f, g, k, l)
+
+-- ---- 11: the words beyond the newest record hold the new one, and its index has 32 bits
+
+module _ (b : Block) (j : List ℕ) where
+  pub room-short : length j < nextIndex j + recordSize b → roomOk b j ≡ false
+  unfolding roomOk
+  room-short l = rw (lt-leb (nextIndex j + recordSize b) (length j) l)
+
+  pub room-far : 4294967296 ≤ nextIndex j → roomOk b j ≡ false
+  unfolding roomOk
+  room-far l = and-off (leb (nextIndex j + recordSize b) (length j)) _ (le-ltb (nextIndex j) 4294967296 l)
+
+  pub room-yes : nextIndex j + recordSize b ≤ length j → nextIndex j < 4294967296 → roomOk b j ≡ true
+  unfolding roomOk
+  room-yes l k = and-true _ _ (le-leb (nextIndex j + recordSize b) (length j) l) (lt-ltb (nextIndex j) 4294967296 k)
+
+  pub room-end : roomOk b j ≡ true → nextIndex j + recordSize b ≤ length j
+  unfolding roomOk
+  room-end e = leb-true (nextIndex j + recordSize b) (length j) (and-left (leb (nextIndex j + recordSize b) (length j)) _ e)
+
+  pub room-index : roomOk b j ≡ true → nextIndex j < 4294967296
+  unfolding roomOk
+  room-index e = ltb-true (nextIndex j) 4294967296 (and-right (leb (nextIndex j + recordSize b) (length j)) _ e)
+
 -- ---- what the common tests have shown
 
 pub record Common (s : Settings) (p : Pictures) (d : Depths) (h : Held) : Type 0 where
@@ -306,12 +355,12 @@ module _ (s : Settings) (v : ℕ) (b : Block) (c : Candidate) (n : ℕ) where
   candidate-last rest e f = rw (e, f)
 
 -- what a call's own tests have shown
-pub record Own (s : Settings) (v : ℕ) (b : Block) (c : Candidate) (n : ℕ) : Type 0 where
+pub record OwnTests (s : Settings) (v : ℕ) (b : Block) (c : Candidate) (n : ℕ) : Type 0 where
   pub view : v ≤ 1
   pub block : Inside s b
   pub candidate : candidateThen b c n 0 ≡ 0
 
-pub own-facts : (s : Settings) (v : ℕ) (b : Block) (c : Candidate) (n : ℕ) → ownThen s v b c n 0 ≡ 0 → Own s v b c n
+pub own-facts : (s : Settings) (v : ℕ) (b : Block) (c : Candidate) (n : ℕ) → ownThen s v b c n 0 ≡ 0 → OwnTests s v b c n
 unfolding ownThen
 own-facts s v b c n e =
     let e₁ = unless-rest (viewOk v) 5 _ e in
@@ -363,7 +412,16 @@ pub own-total : (s : Settings) (t v : ℕ) (b : Block) (c : Candidate) (n rest :
 unfolding ownThen blockOk
 own-total s t v b c n rest = refl
 
--- 13 and 11; 13 and 12
+-- 13, then 11; 13, then 12
+module _ (s : Settings) (j : List ℕ) (rest : ℕ) where
+  pub saving-first : (b : Block) → journalOk s j ≡ false → savingThen s b j rest ≡ 13
+  unfolding savingThen
+  saving-first b e = rw e
+
+  pub taking-first : journalOk s j ≡ false → takingThen s j rest ≡ 13
+  unfolding takingThen
+  taking-first e = rw e
+
 pub saving-before : (s : Settings) (b : Block) (j : List ℕ) → Before (savingThen s b j)
 unfolding savingThen
 saving-before s b j = one-before (journalOk s j) 12 _ (one-before (roomOk b j) 10 _ none-before)
@@ -377,6 +435,10 @@ module _ (s : Settings) (p : Pictures) (d : Depths) (h : Held) where
   pub open-stays : (j : List ℕ) → (commonThen s p d h 0 ≡ 0 → ⊥) → openNumber s p d h j ≡ commonThen s p d h 0
   open-stays j ne = common-before s p d h .stays _ ne
 
+  -- of these 13 comes first
+  pub open-words : (j : List ℕ) → commonThen s p d h 0 ≡ 0 → wordsOk j ≡ false → openNumber s p d h j ≡ 13
+  open-words j e f = common-before s p d h .rest _ e ∙ rw f
+
   -- what is not refused has passed the common tests
   pub common-passed : (rest : ℕ) → commonThen s p d h rest ≡ 0 → commonThen s p d h 0 ≡ 0
   common-passed = passed (common-before s p d h)
@@ -384,6 +446,13 @@ module _ (s : Settings) (p : Pictures) (d : Depths) (h : Held) where
   -- TAKE BACK's tests before 8
   pub taken-before : (j : List ℕ) → Before (λ k. commonThen s p d h (takingThen s j k))
   taken-before j = then-before (common-before s p d h) (taking-before s j)
+
+  -- with no number before 8, 8 decides
+  pub taken-late : (j : List ℕ) (x : ℤ) → takeBackEarly s p d h j ≡ 0 → takeBackNumber s p d h j x ≡ unless (inRange s x) 8 0
+  taken-late j x e = taken-before j .rest _ e
+
+  pub taken-early : (j : List ℕ) (x : ℤ) → (takeBackEarly s p d h j ≡ 0 → ⊥) → takeBackNumber s p d h j x ≡ takeBackEarly s p d h j
+  taken-early j x ne = taken-before j .stays _ ne
 
   module _ (v : ℕ) (b : Block) (c : Candidate) (n : ℕ) where
     -- what GET and SET refuse before 8

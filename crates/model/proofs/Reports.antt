@@ -85,7 +85,7 @@ module _ (g : ℕ → Bool) where
 abbrev pub SameUpTo : Settings → Held → Held → ℕ → Type 0
 SameUpTo s a b n = (y x : ℕ) → y < s .h → x < s .w → y * s .w + x < n → sameAt (s .w) a b y x ≡ true
 
-pub Means : Settings → Pictures → Depths → Held → Report → Type 0
+unfoldable pub Means : Settings → Pictures → Depths → Held → Report → Type 0
 Means s p d h (Refused r) = ⊥
 Means s p d h Sound = SameUpTo s h (fresh s p d) (area s) × (s .total ≡ freshTotal s p d)
 Means s p d h (Difference y x) =

@@ -9,7 +9,7 @@ use lib.ListN.{getD}
 use lib.IntN.{ℤ, pos, negℤ, subℕ, _+ℤ_, _-ℤ_, +ℤ-assoc, +ℤ-comm, +ℤ-idl, +ℤ-invl, negℤ-+ℤ, negℤ-negℤ}
 use lib.Signed.{leZ}
 use borrow.Author.Tests.{le-leb, lt-leb, lt-ltb, le-ltb}
-use Rattle.model.specs.Row.{place, quarter, raised, signed}
+use Rattle.model.specs.Row.{signedPlace, place, quarter, raised, signed}
 use Rattle.model.specs.Span.{leastEdited, spanLow}
 use Rattle.model.proofs.Choice.{lt-or-le}
 use Rattle.model.proofs.Owners.{above-least}
@@ -28,9 +28,14 @@ subℕ-same a b e g q = ⊎-elim below above (lt-or-le a b)
         let m : a - b ≡ e - g = omega arith in
         rw (le-ltb a b h, le-ltb e g (omega arith), m)
 
-pub signed-place : (t d : List ℕ) (c : ℕ) → getD t (getD d c 0) 0 ≤ 1023 → signed (place t d c) ≡ subℕ (4 * c) (getD t (getD d c 0) 0)
+pub minus : (a b : ℕ) → pos a -ℤ pos b ≡ subℕ a b
+minus a zero = let e : a + 0 ≡ a - 0 = omega arith in ap pos e ∙ sym (rw (le-ltb a 0 (omega arith)))
+minus a (suc b) = refl
+
+pub signed-place : (t d : List ℕ) (c : ℕ) → getD t (getD d c 0) 0 ≤ 1023 → signed (place t d c) ≡ signedPlace t d c
 unfolding place
-signed-place t d c h = subℕ-same (quarter c - getD t (getD d c 0) 0) raised (4 * c) (getD t (getD d c 0) 0) (omega arith)
+signed-place t d c h =
+    subℕ-same (quarter c - getD t (getD d c 0) 0) raised (4 * c) (getD t (getD d c 0) 0) (omega arith) ∙ sym (minus (4 * c) (getD t (getD d c 0) 0))
 
 pub signed-quarter : (p : ℕ) → signed (quarter p) ≡ pos (4 * p)
 signed-quarter p = let e : 4 * p + raised - raised ≡ 4 * p = omega arith in rw (le-ltb (quarter p) raised (omega arith), e)
@@ -53,10 +58,6 @@ signed-le a b =
     (lt-or-le a raised)
 
 -- ---- differences
-
-pub minus : (a b : ℕ) → pos a -ℤ pos b ≡ subℕ a b
-minus a zero = let e : a + 0 ≡ a - 0 = omega arith in ap pos e ∙ sym (rw (le-ltb a 0 (omega arith)))
-minus a (suc b) = refl
 
 pub subℕ-chain : (a b c : ℕ) → subℕ a b +ℤ subℕ b c ≡ subℕ a c
 subℕ-chain a b c =

@@ -19,7 +19,7 @@ use Rattle.model.specs.declared.Pixel.{Pixel}
 use Rattle.model.specs.Lists.{sumTo}
 use Rattle.model.specs.Row.{Line, width, placeIn, owner, quarter, kindOf, greatest, read, sampleIn, taps1, taps2, taps3, weighted, clipped, filtered, mixed, byKind, pixelAt, shownPixel, nearEdge, ownedPixel, pairPixel, smoothPixel, tornPixel, lastPixel}
 use Rattle.model.specs.Views.{entryOf}
-use Rattle.model.specs.Combined.{worst, apart, shared, bothShown, bothHoles, combinedOf, squareError}
+use Rattle.model.specs.Combined.{worst, apart, blended, bothShown, bothHoles, combinedOf, squareError}
 use Rattle.model.specs.Planes.{Pictures, Depths, area}
 use Rattle.model.specs.Fresh.{lineOf, freshRow, shownAt, freshSample, freshCombined, totalOf, freshTotal}
 use Rattle.model.proofs.Choice.{bool-cases}
@@ -94,7 +94,7 @@ owned-most l x c =
     (λ e. rw e
     (kind-most (kindOf (l .tear .gap) (subℕ (placeIn l (c + 1)) (placeIn l c))) _ (smoothPixel l c (x - placeIn l c) (placeIn l (c + 1) - placeIn l c)) (tornPixel l c (x - placeIn l c)) here
     (mixed-most (l .texture) c _)
-    (bool-cases (leb (x - placeIn l c) (l .tear .distance)) (λ q. rw q here) (λ q. rw q (sampleIn-most (l .texture) (c + 1))))))
+    (bool-cases (leb (x - placeIn l c) (l .tear .distance)) (λ q. rw q here) (λ q. rw q (sampleIn-most (l .texture) _)))))
 
 pub pixel-most : (l : Line) (p : ℕ) → pixelAt l p .sample ≤ greatest
 unfolding pixelAt shownPixel
@@ -102,16 +102,16 @@ pixel-most l p =
     let c : ℕ = owner (placeIn l) (quarter p) (width l) in
     bool-cases (nearEdge (placeIn l) (width l) c (quarter p)) (λ e. rw e (sampleIn-most (l .texture) _)) (λ e. rw e (owned-most l (quarter p) c))
 
-pub shared-most : (share a b : ℕ) → share ≤ 64 → a ≤ greatest → b ≤ greatest → shared share a b ≤ greatest
-unfolding shared
-shared-most share a b h ha hb = omega (arith, mean a b 64 share ha hb h)
+pub blended-most : (share a b : ℕ) → share ≤ 64 → a ≤ greatest → b ≤ greatest → blended share a b ≤ greatest
+unfolding blended
+blended-most share a b h ha hb = omega (arith, mean a b 64 share ha hb h)
 
 pub combined-most : (share tolerance : ℕ) (l r : Pixel) → share ≤ 64 → l .sample ≤ greatest → r .sample ≤ greatest → combinedOf share tolerance l r ≤ greatest
 unfolding combinedOf bothShown bothHoles
 combined-most share tolerance l r h a b =
     bool-cases (eqb (l .mark) 0)
     (λ e. rw e (bool-cases (eqb (r .mark) 0)
-    (λ q. rw q (bool-cases (leb (apart (l .front) (r .front)) tolerance) (λ z. rw z (shared-most share _ _ h a b))
+    (λ q. rw q (bool-cases (leb (apart (l .front) (r .front)) tolerance) (λ z. rw z (blended-most share _ _ h a b))
     (λ z. rw z (bool-cases (ltb (r .front) (l .front)) (λ u. rw u a) (λ u. rw u b)))))
     (λ q. rw q a)))
     (λ e. rw e (bool-cases (eqb (r .mark) 0) (λ q. rw q b)

@@ -63,6 +63,11 @@ module _ {A : Type 0} where
       (lt-or-le i j))
       (lt-or-le j i))
 
+  pub getD-seen : (z : A) (r : Bool) (l : List A) (i : ℕ) → i < length l → getD (seen r l) i z ≡ getD l (entryOf r (length l) i) z
+  unfolding seen entryOf
+  getD-seen z true l i h = getD-reverse z l i h
+  getD-seen z false l i h = refl
+
   pub length-seen : (r : Bool) (l : List A) → length (seen r l) ≡ length l
   unfolding seen
   length-seen true l = length-reverse l
@@ -72,11 +77,6 @@ module _ {A : Type 0} where
   unfolding seen
   seen-seen true l = reverse-reverse l
   seen-seen false l = refl
-
-  pub getD-seen : (z : A) (r : Bool) (l : List A) (i : ℕ) → i < length l → getD (seen r l) i z ≡ getD l (entryOf r (length l) i) z
-  unfolding seen entryOf
-  getD-seen z true l i h = getD-reverse z l i h
-  getD-seen z false l i h = refl
 
   pub set-seen : (z : A) (r : Bool) (l : List A) (i : ℕ) (v : A) → i < length l → seen r (set l (entryOf r (length l) i) v) ≡ set (seen r l) i v
   unfolding seen entryOf

@@ -10,13 +10,13 @@ abbrev pub apart : ℕ → ℕ → ℕ
 apart a b = (a - b) + (b - a)
 
 -- (left × (64 − share) + right × share + 32) div 64
-unfoldable pub shared : ℕ → ℕ → ℕ → ℕ
-shared share left right = (left * (64 - share) + right * share + 32) / 64
+unfoldable pub blended : ℕ → ℕ → ℕ → ℕ
+blended share left right = (left * (64 - share) + right * share + 32) / 64
 
--- Both marks 0: front depths differing by at most the tolerance, the shared sample; by more, the sample of the larger depth.
+-- Both marks 0: front depths differing by at most the tolerance, the blended sample; by more, the sample of the larger depth.
 unfoldable pub bothShown : ℕ → ℕ → Pixel → Pixel → ℕ
 bothShown share tolerance l r =
-    cond (leb (apart (l .front) (r .front)) tolerance) (shared share (l .sample) (r .sample))
+    cond (leb (apart (l .front) (r .front)) tolerance) (blended share (l .sample) (r .sample))
     (cond (ltb (r .front) (l .front)) (l .sample) (r .sample))
 
 -- Both marks 1: the sample of the smaller depth, left if equal.

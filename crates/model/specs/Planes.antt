@@ -1,12 +1,14 @@
 -- Document 01, "What the library holds": the planes that a call is lent, as records.
-use Prim.Native.Nat.{ℕ, _*_}
-use mathlib.Core.Bool.{Bool, cond}
+use Prim.Native.Nat.{ℕ, _*_, _≤_}
+use mathlib.Core.Path.{_≡_}
+use mathlib.Core.Bool.{Bool, true, false, cond}
+use mathlib.Core.Logic.{_⊎_}
 use mathlib.Core.List.{List}
 use lib.IntN.{ℤ}
-use lib.ListN.{length}
+use lib.ListN.{length, getD}
 use Rattle.model.specs.declared.Settings.{Settings}
 use Rattle.model.specs.Lists.{listOf, rowOf}
-use Rattle.model.specs.Row.{sampleIn}
+use Rattle.model.specs.Row.{greatest, sampleIn}
 use Rattle.model.specs.Marks.{markBytes}
 
 -- Read only: two textures and a reference.
@@ -77,7 +79,7 @@ abbrev pub withReference : Pictures → List ℕ → Pictures
 withReference p reference = pictures (p .left) (p .right) reference
 
 -- Document 02, card 12: a plane of samples as it is read, and what is held as GET, SET and TAKE BACK read it. Where no sample is above the greatest, as in
--- what the calls make, that is what stands there (proofs/Readings).
+-- a fresh drawing, that is what stands there (proofs/Readings).
 unfoldable pub readAll : List ℕ → List ℕ
 readAll l = listOf (sampleIn l) (length l)
 
@@ -86,6 +88,10 @@ readView v = view (readAll (v .samples)) (v .fronts) (v .limits) (v .marks)
 
 unfoldable pub readHeld : Held → Held
 readHeld h = held (readView (h .left)) (readView (h .right)) (readAll (h .combined))
+
+-- From `before` to `after` no sample above the greatest is written: every entry is at most that, or what stood there.
+abbrev pub NoneHigher : List ℕ → List ℕ → Type 0
+NoneHigher before after = (i : ℕ) → (getD after i 0 ≤ greatest) ⊎ (getD after i 0 ≡ getD before i 0)
 
 -- what belongs to a view: its table, its texture, its depths, its held planes
 abbrev pub tableOf : Settings → Bool → List ℕ
@@ -99,6 +105,11 @@ depthsOf d right = cond right (d .right) (d .left)
 
 abbrev pub viewOf : Held → Bool → View
 viewOf h right = cond right (h .right) (h .left)
+
+-- what is held, with other planes for the view and another combined picture
+abbrev pub withView : Bool → Held → View → List ℕ → Held
+withView true h own combined = held (h .left) own combined
+withView false h own combined = held own (h .right) combined
 
 -- row y of every held plane
 abbrev pub viewRows : ℕ → View → ℕ → View

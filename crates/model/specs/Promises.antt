@@ -1,5 +1,5 @@
 -- What each entry promises of its reply and of every plane it is lent: one record an entry.
-use Prim.Native.Nat.{ℕ, _≤_}
+use Prim.Native.Nat.{ℕ, _*_, _≤_}
 use mathlib.Core.Path.{_≡_}
 use mathlib.Core.Bool.{true, false, cond}
 use mathlib.Core.List.{List}
@@ -15,16 +15,18 @@ use Rattle.model.specs.declared.Edited.{Edited}
 use Rattle.model.specs.declared.Report.{Report}
 use Rattle.model.specs.declared.Count.{Count}
 use Rattle.model.specs.declared.Count.the-variants.{Holes}
+use Rattle.model.specs.Lists.{rowOf}
 use Rattle.model.specs.Row.{line}
 use Rattle.model.specs.Views.{isRight, viewRow}
-use Rattle.model.specs.Marks.{holesIn}
-use Rattle.model.specs.Planes.{Pictures, Depths, Held, Strip, withTotal, withSeat, tableOf, readHeld, heldRow}
+use Rattle.model.specs.Marks.{markBytes, spareBits, holesIn}
+use Rattle.model.specs.Planes.{Pictures, Depths, View, Held, Strip, area, withTotal, withSeat, tableOf, readHeld, NoneHigher, viewOf, withView, heldRow}
 use Rattle.model.specs.Fresh.{stripOf, fresh, freshTotal}
 use Rattle.model.specs.Candidates.{filled}
 use Rattle.model.specs.Blocks.{inRows, written, oldDepths, changeOf}
 use Rattle.model.specs.Journals.{newest, recordView, recordBlock, recordDepths, saved, takenBack, emptied}
+use Rattle.model.specs.Span.{limitMoves}
 use Rattle.model.specs.Reports.{reportOf}
-use Rattle.model.specs.Refusals.{numberOf, reportNumber, countNumber, openNumber, checkNumber, earlyNumber, callNumber, setNumber, takeBackNumber, takeBackEarly, inRange, renderNumber, holesNumber}
+use Rattle.model.specs.Refusals.{numberOf, reportNumber, countNumber, heldSized, openNumber, checkNumber, earlyNumber, callNumber, setNumber, takeBackNumber, takeBackEarly, inRange, renderNumber, holesNumber}
 
 -- RENDER draws one row of one view with that view's table. x₀ is what it is lent for writing, at entry; x the same at exit.
 pub record RenderPost (s : Settings) (v : ℕ) (texture depths : List ℕ) (x₀ x : Strip) (r : Refusal) : Type 0 where
@@ -58,7 +60,7 @@ OpenPost s = FillPost s s
 abbrev pub MovePost : Settings → Settings → Pictures → Depths → Held → Held → List ℕ → List ℕ → Opened → Type 0
 MovePost s to = FillPost s (withSeat s to)
 
--- Held planes and total that are those of the fresh drawing: what OPEN, SET, TAKE BACK and MOVE make.
+-- Held planes and total that are those of the fresh drawing: what OPEN and MOVE make, and SET and TAKE BACK keep.
 pub record Sound (s : Settings) (p : Pictures) (d : Depths) (h : Held) : Type 0 where
   pub held : h ≡ fresh s p d
   pub total : s .total ≡ freshTotal s p d
@@ -74,11 +76,20 @@ pub record GetPost (s : Settings) (p : Pictures) (d : Depths) (h : Held) (v : �
   pub decided : earlyNumber s p d h v b c (length x) ≡ 0 → Sound s p d (readHeld h) → found ≡ changeOf s p d v b (filled b c x)
   pub in-range : earlyNumber s p d h v b c (length x) ≡ 0 → Sound s p d (readHeld h) → inRange s found ≡ true
 
--- Whatever the planes hold, the other view's planes and the rows outside the block are as they were.
-pub record Untouched (s : Settings) (v : ℕ) (b : Block) (h₀ h : Held) : Type 0 where
-  pub left : isRight v ≡ true → h .left ≡ h₀ .left
-  pub right : isRight v ≡ false → h .right ≡ h₀ .right
+-- What an accepted SET or TAKE BACK leaves of the held planes, whatever they held. `own` names the own view's planes, `combined` the combined picture; nothing else
+-- changes, and of these no row outside the block. Their rows in the block are decided where the session is sound (`held` and `read` of EditPost) and undecided
+-- elsewhere. There too every plane has its exact length, no sample above the greatest is written, limits change at columns up to the block's last only, and spare
+-- bits stay.
+pub record Updated (s : Settings) (v : ℕ) (b : Block) (h₀ h : Held) : Type 0 where
+  pub own : View
+  pub combined : List ℕ
+  pub held : h ≡ withView (isRight v) h₀ own combined
   pub rows : (y : ℕ) → inRows b y ≡ false → heldRow (s .w) h y ≡ heldRow (s .w) h₀ y
+  pub lengths : heldSized (area s) (markBytes (s .w) * s .h) h ≡ true
+  pub samples : NoneHigher (viewOf h₀ (isRight v) .samples) (own .samples)
+  pub combined-samples : NoneHigher (h₀ .combined) combined
+  pub limits : (y x : ℕ) → limitMoves s (isRight v) b x ≡ false → getD (rowOf (own .limits) (s .w) y) x (pos 0) ≡ getD (rowOf (viewOf h₀ (isRight v) .limits) (s .w) y) x (pos 0)
+  pub spare-bits : (y : ℕ) → spareBits (rowOf (own .marks) (markBytes (s .w)) y) (s .w) ≡ spareBits (rowOf (viewOf h₀ (isRight v) .marks) (markBytes (s .w)) y) (s .w)
 
 -- What SET and TAKE BACK have in common: the depths c are written into block b of view v, the held planes are brought up to date, and the change and the
 -- settings with the new total are answered; or nothing is changed. d₀ and h₀ are the planes at entry, d and h at exit. `early` is the call's number before 8, and
@@ -91,7 +102,7 @@ pub record EditPost (s : Settings) (p : Pictures) (d₀ d : Depths) (h₀ h : He
   pub change : numberOf (r .refusal) ≡ 0 → r .change ≡ found
   pub settings : numberOf (r .refusal) ≡ 0 → r .settings ≡ withTotal s (natAbs (pos (s .total) +ℤ found))
   pub depths : numberOf (r .refusal) ≡ 0 → d ≡ written s v b c d₀
-  pub untouched : numberOf (r .refusal) ≡ 0 → Untouched s v b h₀ h
+  pub updated : numberOf (r .refusal) ≡ 0 → Updated s v b h₀ h
   pub decided : early ≡ 0 → Sound s p d₀ (readHeld h₀) → found ≡ changeOf s p d₀ v b c
   pub in-range : early ≡ 0 → Sound s p d₀ (readHeld h₀) → inRange s found ≡ true
   pub held : numberOf (r .refusal) ≡ 0 → Sound s p d₀ h₀ → h ≡ fresh s p (written s v b c d₀)
@@ -116,10 +127,16 @@ pub record TakeBackPost (s : Settings) (p : Pictures) (d₀ d : Depths) (h₀ h 
   pub refused-journal : (numberOf (r .refusal) ≡ 0 → ⊥) → j ≡ j₀
   pub journal : numberOf (r .refusal) ≡ 0 → j ≡ takenBack j₀
 
+-- Packed marks are bytes: of the planes that a call is lent this holds by their type.
+pub record MarkBytes (h : Held) : Type 0 where
+  pub left : (i : ℕ) → getD (h .left .marks) i 0 ≤ 255
+  pub right : (i : ℕ) → getD (h .right .marks) i 0 ≤ 255
+
 -- CHECK compares every held entry with a fresh drawing.
 pub record CheckPost (s : Settings) (p : Pictures) (d : Depths) (h : Held) (r : Report) : Type 0 where
   pub number : reportNumber r ≡ checkNumber s p d h
   pub report : reportNumber r ≡ 0 → r ≡ reportOf s p d h
+  pub bytes : MarkBytes h
 
 -- HOLES counts the chosen view's marks of 1 at positions below w.
 pub record HolesPost (s : Settings) (v : ℕ) (left right : List ℕ) (r : Count) : Type 0 where

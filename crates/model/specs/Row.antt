@@ -1,9 +1,9 @@
 -- Document 01, "One row of the left view", with the filter of document 02, card 2, the near edges of card 7, the two numbers of card 11 and the
 -- ten bits of card 12.
 --
--- A place, 4 × c − table[d] in quarters, may be as low as −1,023. Here every number of quarters is kept as a natural number,
--- raised by 1,024, and `signed` takes that away again. The laws of proofs/Signs show that nothing is lost by it:
---     signed-place     the raised place of column c stands for 4 × c − table[d]
+-- A place, 4 × c − table[d] in quarters (`signedPlace`), may be as low as −1,023. After that every number of quarters is kept as a natural
+-- number, raised by 1,024, and `signed` takes that away again. The laws of proofs/Signs show that nothing is lost by it:
+--     signed-place     the raised place of column c stands for 4 × c − table[d], where the table's entry is at most 1,023
 --     signed-quarter   the raised position p stands for 4 × p
 --     signed-le        raised numbers are ordered as what they stand for
 --     signed-gap       and differ by as much
@@ -12,7 +12,7 @@ use mathlib.Core.Bool.{Bool, cond, _&&_}
 use mathlib.Core.List.{List, [], _∷_}
 use lib.ListN.{length, getD}
 use lib.Dec.{leb, ltb, eqb}
-use lib.IntN.{ℤ, pos, negsuc, negℤ, subℕ, _+ℤ_, _*ℤ_}
+use lib.IntN.{ℤ, pos, negsuc, negℤ, subℕ, _+ℤ_, _-ℤ_, _*ℤ_}
 use lib.Signed.{ltZ, shrZ}
 use Rattle.model.specs.declared.Kind.{Kind}
 use Rattle.model.specs.declared.Kind.the-variants.{Hidden, Smooth, Torn}
@@ -46,6 +46,10 @@ abbrev pub quarter : ℕ → ℕ
 quarter p = 4 * p + raised
 
 -- The place of column c with depth d is 4 × c − table[d].
+abbrev pub signedPlace : List ℕ → List ℕ → ℕ → ℤ
+signedPlace t d c = pos (4 * c) -ℤ pos (getD t (getD d c 0) 0)
+
+-- the same, raised
 unfoldable pub place : List ℕ → List ℕ → ℕ → ℕ
 place t d c = quarter c - getD t (getD d c 0) 0
 
@@ -134,8 +138,8 @@ abbrev pub pixel : ℕ → ℕ → ℕ → Pixel
 pixel sample mark front = record { sample = sample; mark = mark; front = front }
 
 -- column c's own sample and depth, with a mark
-abbrev pub plain : Line → ℕ → ℕ → Pixel
-plain l c mark = pixel (sampleIn (l .texture) c) mark (getD (l .depths) c 0)
+abbrev pub columnPixel : Line → ℕ → ℕ → Pixel
+columnPixel l c mark = pixel (sampleIn (l .texture) c) mark (getD (l .depths) c 0)
 
 -- Smooth: the mixed sample, mark 0, front depth d[c].
 unfoldable pub smoothPixel : Line → ℕ → ℕ → ℕ → Pixel
@@ -143,11 +147,11 @@ smoothPixel l c t gap = pixel (mixed (l .texture) c (stepOf t gap)) 0 (getD (l .
 
 -- Torn, t at most the distance (card 11): s[c], mark 0, d[c]. Torn, t of more: s[c + 1], mark 1, d[c + 1].
 unfoldable pub tornPixel : Line → ℕ → ℕ → Pixel
-tornPixel l c t = cond (leb t (l .tear .distance)) (plain l c 0) (plain l (c + 1) 1)
+tornPixel l c t = cond (leb t (l .tear .distance)) (columnPixel l c 0) (columnPixel l (c + 1) 1)
 
 -- Last column: s[c] and d[c]; mark 0 if t is at most the distance, else 1.
 unfoldable pub lastPixel : Line → ℕ → ℕ → Pixel
-lastPixel l c t = cond (leb t (l .tear .distance)) (plain l c 0) (plain l c 1)
+lastPixel l c t = cond (leb t (l .tear .distance)) (columnPixel l c 0) (columnPixel l c 1)
 
 -- A hidden pair owns nothing, so its case shows nowhere.
 abbrev pub byKind : Kind → Pixel → Pixel → Pixel → Pixel
@@ -159,7 +163,7 @@ byKind Torn hidden smooth torn = torn
 unfoldable pub pairPixel : Line → ℕ → ℕ → Pixel
 pairPixel l c t =
     byKind (kindOf (l .tear .gap) (subℕ (placeIn l (c + 1)) (placeIn l c)))
-    (plain l c 0)
+    (columnPixel l c 0)
     (smoothPixel l c t (placeIn l (c + 1) - placeIn l c))
     (tornPixel l c t)
 
@@ -182,7 +186,7 @@ nearEdge f w c x = ltb (c + 1) w && (ltb (limit f w (c + 1)) (f (c + 1)) && leb 
 unfoldable pub shownPixel : Line → ℕ → ℕ → Pixel
 shownPixel l c x =
     cond (nearEdge (placeIn l) (width l) c x)
-    (plain l (placedAt (placeIn l) (limit (placeIn l) (width l) (c + 1)) (width l)) 0)
+    (columnPixel l (placedAt (placeIn l) (limit (placeIn l) (width l) (c + 1)) (width l)) 0)
     (ownedPixel l c x)
 
 -- what position p shows

@@ -31,15 +31,15 @@ unfoldable pub firstColumn : Bool → ℕ → ℕ → ℕ → ℕ
 firstColumn true w a n = w - (a + n)
 firstColumn false w a n = a
 
--- the places of row y, as the view reads it
-unfoldable pub placesOf : Settings → Bool → Depths → ℕ → ℕ → ℕ
-placesOf s right d y = place (tableOf s right) (seen right (rowOf (depthsOf d right) (s .w) y))
+-- the place of column c of row y, as the view reads it
+unfoldable pub viewPlace : Settings → Bool → Depths → ℕ → ℕ → ℕ
+viewPlace s right d y c = place (tableOf s right) (seen right (rowOf (depthsOf d right) (s .w) y)) c
 
 -- Entry x of row y lies in the span of an edit of the block from the depths d to the depths e.
 unfoldable pub spanHas : Settings → Bool → Block → Depths → Depths → ℕ → ℕ → Bool
 spanHas s right b d e y x =
     let a = firstColumn right (s .w) (b .column) (b .width) in
-    inSpan (placesOf s right d y) (placesOf s right e y) (s .w) a (a + b .width - 1) (entryOf right (s .w) x)
+    inSpan (viewPlace s right d y) (viewPlace s right e y) (s .w) a (a + b .width - 1) (entryOf right (s .w) x)
 
 -- Limits may change at columns up to b only, reversed likewise: entry x stands for such a column.
 unfoldable pub limitMoves : Settings → Bool → Block → ℕ → Bool

@@ -9,7 +9,7 @@ use lib.Dec.{leb, ltb}
 use lib.IntN.{subℕ}
 use Rattle.model.specs.declared.Tear.{Tear}
 use Rattle.model.specs.declared.Pixel.{Pixel}
-use Rattle.model.specs.Row.{Line, quarter, place, sampleIn, kindOf, stepOf, mixed, pixel, plain, byKind, ownedPixel}
+use Rattle.model.specs.Row.{Line, quarter, place, sampleIn, kindOf, stepOf, mixed, pixel, columnPixel, byKind, ownedPixel}
 use Rattle.model.specs.Views.{entryOf}
 use Rattle.pixel.specs.declared.Edge.{Edge}
 use Rattle.pixel.specs.declared.Pair.{Pair}
@@ -37,22 +37,22 @@ unfoldable pub reached : ℕ → ℕ → ℕ
 reached x m = cond (leb m x) 1 0
 
 -- the pair's own sample and depth, with a mark; s is the texture as the view reads it
-abbrev pub plainOf : List ℕ → Pair → ℕ → Pixel
-plainOf s q mark = pixel (sampleIn s (q .column)) mark (q .d0)
+abbrev pub columnOf : List ℕ → Pair → ℕ → Pixel
+columnOf s q mark = pixel (sampleIn s (q .column)) mark (q .d0)
 
 -- t quarters into a smooth pair, into a torn one, and past the last column
 unfoldable pub smoothOf : List ℕ → Pair → ℕ → Pixel
 smoothOf s q t = pixel (mixed s (q .column) (stepOf t (q .next - q .here))) 0 (q .d0)
 
 unfoldable pub tornOf : Tear → List ℕ → Pair → ℕ → Pixel
-tornOf tear s q t = cond (leb t (tear .distance)) (plainOf s q 0) (pixel (sampleIn s (q .column + 1)) 1 (q .d1))
+tornOf tear s q t = cond (leb t (tear .distance)) (columnOf s q 0) (pixel (sampleIn s (q .column + 1)) 1 (q .d1))
 
 unfoldable pub lastOf : Tear → List ℕ → Pair → ℕ → Pixel
-lastOf tear s q t = cond (leb t (tear .distance)) (plainOf s q 0) (plainOf s q 1)
+lastOf tear s q t = cond (leb t (tear .distance)) (columnOf s q 0) (columnOf s q 1)
 
 -- by the pair's kind; a hidden pair owns nothing
 unfoldable pub kindPixel : Tear → List ℕ → Pair → ℕ → Pixel
-kindPixel tear s q t = byKind (kindOf (tear .gap) (subℕ (q .next) (q .here))) (plainOf s q 0) (smoothOf s q t) (tornOf tear s q t)
+kindPixel tear s q t = byKind (kindOf (tear .gap) (subℕ (q .next) (q .here))) (columnOf s q 0) (smoothOf s q t) (tornOf tear s q t)
 
 -- what x shows by the pair's column itself, where that owns it
 unfoldable pub pixelOf : Tear → List ℕ → Pair → ℕ → Pixel
@@ -77,4 +77,4 @@ atEdge m next x = ltb m next && leb (m - x) 1
 
 -- what x shows in a row where column c owns it, m is taken for the limit of c + 1 and column e for the greatest placed there
 unfoldable pub edgedPixel : Line → ℕ → ℕ → ℕ → ℕ → Pixel
-edgedPixel l c m e x = cond (atEdge m (nextPlace (l .table) (l .depths) c) x) (plain l e 0) (ownedPixel l c x)
+edgedPixel l c m e x = cond (atEdge m (nextPlace (l .table) (l .depths) c) x) (columnPixel l e 0) (ownedPixel l c x)

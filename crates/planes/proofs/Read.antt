@@ -1,11 +1,12 @@
 -- Planes of samples as they are read (document 02, card 12), part by part.
 --     read-low, low-read        a plane without higher entries, and no other, is read as it stands
---     read-put, low-splice      a part that is put into a plane
+--     read-put, low-splice      a part that is put into a plane; of low values, nothing higher is written
 --     low-list, low-seen        a list of low values, as a view reads it
+--     none-then, low-kept       nothing higher written twice over, and into a plane of low values
 use Prim.Native.Nat.{ℕ, _+_, _-_, _<_, _≤_}
 use mathlib.Core.Path.{_≡_, sym, ap, subst, _∙_}
 use mathlib.Core.Bool.{Bool}
-use mathlib.Core.Logic.{⊎-elim}
+use mathlib.Core.Logic.{⊎-elim, _⊎_, inl, inr}
 use mathlib.Core.List.{List}
 use native.Mathlib.Omega.{arith}
 use lib.ListN.{length, getD, List·getD-eq-default}
@@ -13,7 +14,7 @@ use lib.Seq.{ext-getD}
 use Rattle.model.specs.Lists.{listOf}
 use Rattle.model.specs.Row.{greatest, read, sampleIn}
 use Rattle.model.specs.Views.{seen, entryOf}
-use Rattle.model.specs.Planes.{readAll}
+use Rattle.model.specs.Planes.{readAll, NoneHigher}
 use Rattle.model.proofs.Choice.{lt-or-le}
 use Rattle.model.proofs.Lists.{length-listOf, getD-listOf}
 use Rattle.model.proofs.Views.{length-seen, getD-seen}
@@ -41,12 +42,12 @@ by-part P at n under inside beyond i =
     (lt-or-le i at)
 
 module _ (l : List ℕ) (at : ℕ) (xs : List ℕ) (fits : at + length xs ≤ length l) where
-  pub low-splice : Low l → Low xs → Low (splice l at xs)
-  low-splice low part =
-      by-part (λ i. getD (splice l at xs) i 0 ≤ greatest) at (length xs)
-      (λ i h. rw (splice-under 0 l at xs fits i h) (low i))
-      (λ i h. rw (splice-inside 0 l at xs fits i h) (part i))
-      (λ i h. rw (splice-beyond 0 l at xs fits i h) (low i))
+  pub low-splice : Low xs → NoneHigher l (splice l at xs)
+  low-splice part =
+      by-part (λ i. (getD (splice l at xs) i 0 ≤ greatest) ⊎ (getD (splice l at xs) i 0 ≡ getD l i 0)) at (length xs)
+      (λ i h. inr (splice-under 0 l at xs fits i h))
+      (λ i h. inl (rw (splice-inside 0 l at xs fits i h) (part i)))
+      (λ i h. inr (splice-beyond 0 l at xs fits i h))
 
   read-splice : readAll (splice l at xs) ≡ splice (readAll l) at (readAll xs)
   unfolding sampleIn
@@ -76,3 +77,9 @@ low-seen r l low i =
     ⊎-elim (λ h. rw (getD-seen 0 r l i h) (low (entryOf r (length l) i)))
     (λ h. rw (List·getD-eq-default (seen r l) 0 {n = i} (rw (length-seen r l) h)) (omega arith))
     (lt-or-le i (length l))
+
+pub none-then : (a b c : List ℕ) → NoneHigher a b → NoneHigher b c → NoneHigher a c
+none-then a b c first then i = ⊎-elim (λ h. inl h) (λ e. ⊎-elim (λ h. inl (rw e h)) (λ k. inr (e ∙ k)) (first i)) (then i)
+
+pub low-kept : (a b : List ℕ) → NoneHigher a b → Low a → Low b
+low-kept a b none low i = ⊎-elim (λ h. h) (λ e. rw e (low i)) (none i)

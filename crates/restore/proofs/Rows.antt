@@ -20,11 +20,14 @@ use Rattle.model.specs.Planes.{View}
 use Rattle.model.specs.Candidates.{filled}
 use Rattle.model.specs.Refusals.{candidateThen}
 use Rattle.model.specs.Blocks.{inRows, writtenPlane}
+use Rattle.model.specs.Span.{firstColumn}
 use Rattle.model.proofs.Choice.{lt-or-le}
 use Rattle.model.proofs.Lists.{rows-apart}
 use Rattle.model.proofs.Written.{rows-under, rows-beyond, written-row-out, written-row-in}
+use Rattle.planes.proofs.Read.{none-then}
 use Rattle.trial.specs.Trial.{Fits}
 use Rattle.trial.proofs.Blocks.{below}
+use Rattle.commit.proofs.Planes.{bounded-then}
 use Rattle.combine.specs.Combine.{BlockIn, BlockSet}
 use Rattle.combine.proofs.Rows.{Through}
 use Rattle.restore.specs.Saved.{Narrowed}
@@ -73,8 +76,8 @@ module _ {tear : Tear} {right : Bool} {t : List ℕ} {share tolerance w h : ℕ}
         combined = λ k p e. set .combined k (through .sound k p) (through .combined k p e);
         others = λ k p. set .others k (none k p) ∙ through .others k (outer k p);
         others-combined = λ k p. set .others-combined k (none k p) ∙ through .others-combined k (outer k p);
-        low = λ l. set .low (through .low l);
-        low-combined = λ l. set .low-combined (through .low-combined l);
+        bounded = bounded-then right w (firstColumn right w (b .column) (b .width) + b .width) v₀ v v′ (through .bounded) (set .bounded);
+        combined-samples = none-then c₀ c c′ (through .combined-samples) (set .combined-samples);
       }
 
 -- the next rows, narrowed in a room

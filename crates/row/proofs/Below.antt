@@ -14,7 +14,7 @@ use native.Mathlib.Numerals.{add-one}
 use lib.Dec.{leb, ltb}
 use lib.ListN.{length}
 use borrow.Author.Tests.{leb-true, lt-ltb, le-ltb}
-use Rattle.model.specs.Row.{Line, width, placeIn, quarter, least, limit, owner, greatest, plain, ownedPixel, placedAt, nearEdge, shownPixel, pixelAt}
+use Rattle.model.specs.Row.{Line, width, placeIn, quarter, least, limit, owner, greatest, columnPixel, ownedPixel, placedAt, nearEdge, shownPixel, pixelAt}
 use Rattle.model.proofs.Choice.{bool-cases, lt-or-le, and-off}
 use Rattle.model.proofs.Owners.{Owns, least-most, least-join, limit-end, limit-step, limit-most, limit-above, owner-owns, owner-below, owns-stretch, place-zero}
 use Rattle.model.proofs.Edges.{placed-is}
@@ -116,7 +116,7 @@ edged-shown l c m e x h em less ee = ⊎-elim inner last (lt-or-le (c + 1) (widt
         (bool-cases (leb (m - x) 1)
         (λ t.
         let y : m ≡ x + 1 = omega (arith, leb-true (m - x) 1 t) in
-        ap (λ (i : ℕ). cond (ltb m (placeIn l (c + 1)) && leb (m - x) 1) (plain l i 0) (ownedPixel l c x)) (ee y))
+        ap (λ (i : ℕ). cond (ltb m (placeIn l (c + 1)) && leb (m - x) 1) (columnPixel l i 0) (ownedPixel l c x)) (ee y))
         (λ t. rw (and-off (ltb m (placeIn l (c + 1))) (leb (m - x) 1) t)))
 
     last : width l ≤ c + 1 → edgedPixel l c m e x ≡ shownPixel l c x

@@ -412,7 +412,7 @@ fn edge_end(w: usize, n: usize) -> usize
     if w - n <= 256 { w } else { n + 256 }
 }
 
-// The last column, of 256 from n on, whose held limit is still `high`, by halving: limits never fall to the right.
+// A column, of 256 from n on, at which the held limits stop being `high`, by halving: the last such where they are true, since true limits never fall to the right.
 fn last_held(right: bool, limits: &[i16], n: usize, high: u32) -> usize
     requires { ⌜ (n < length (now limits)) × (length (now limits) ≤ 4096) ⌝ }
     ensures { λ r. ⌜ (LastHeld (seen right (now (limits .entry))) n high r) × (r < length (now (limits .entry))) ⌝ }

@@ -16,15 +16,15 @@ use Rattle.model.specs.Views.{viewRow}
 use Rattle.rowtext.specs.Format.{rowText}
 use Rattle.rowtext.specs.Promise.{IsRow, IsBad}
 use Rattle.rowtext.proofs.Rows.{text-unique}
-use Rattle.rowprint.specs.Printed.{plainTear, plainTable, drawnRow, headerOf, printed, badInput, Answers}
+use Rattle.rowprint.specs.Printed.{printerTear, printerTable, drawnRow, headerOf, printed, badInput, Answers}
 use Rattle.rowprint.specs.Steps.{Put, Shows, shownLine}
 use Rattle.rowprint.proofs.Puts.{put-as}
 use Rattle.rowprint.proofs.Shown.{same-lines}
 
-pub printed-drawing : (w : ℕ) (texture depths samples marks fronts : List ℕ) {o q : List ℕ} {n : ℕ} → Shows (viewRow false (line plainTear plainTable texture depths)) w samples marks fronts → Put 2048 o 0 (headerOf w ++ rows (shownLine samples marks fronts) w) q n → Put 2048 o 0 (printed (rowText w texture depths)) q n
+pub printed-drawing : (w : ℕ) (texture depths samples marks fronts : List ℕ) {o q : List ℕ} {n : ℕ} → Shows (viewRow false (line printerTear printerTable texture depths)) w samples marks fronts → Put 2048 o 0 (headerOf w ++ rows (shownLine samples marks fronts) w) q n → Put 2048 o 0 (printed (rowText w texture depths)) q n
 unfolding printed drawnRow
 printed-drawing w texture depths samples marks fronts h a =
-    put-as (ap (λ (l : List ℕ). headerOf w ++ l) (same-lines (viewRow false (line plainTear plainTable texture depths)) w samples marks fronts h)) (omega arith) a
+    put-as (ap (λ (l : List ℕ). headerOf w ++ l) (same-lines (viewRow false (line printerTear printerTable texture depths)) w samples marks fronts h)) (omega arith) a
 
 -- a part that has its length can be lent
 pub take-within : (n : ℕ) (l : List ℕ) → length (take n l) ≡ n → n ≤ length l

@@ -11,7 +11,7 @@ use native.Mathlib.Omega.{arith}
 use native.Mathlib.Numerals.{add-one}
 use lib.ListN.{length, getD, take, set, length-set}
 use lib.Seq.{take-all, take-suc, take-suc-set}
-use Rattle.rowtext.specs.Format.{digit, space, newline, decimal, spaced, lineOf}
+use Rattle.rowtext.specs.Format.{digit, space, newline, decimal, spaced, textLine}
 use Rattle.rowtext.proofs.Decimal.{decimal-digit, decimal-ends}
 use Rattle.rowtext.proofs.Lengths.{length-1, one-more}
 use Rattle.model.specs.Lists.{rows}
@@ -43,8 +43,8 @@ pub put-last : (n : ℕ) {o : List ℕ} {at b : ℕ} {p : List ℕ} {l : ℕ} {q
 put-last n h e a b = put-as (rw e (sym (decimal-ends n h))) (omega (arith, one-more n h)) (put-then a b)
 
 -- four numbers and what ends each
-line-of-four : (a b c d : ℕ) → (decimal a ++ (space ∷ [])) ++ ((decimal b ++ (space ∷ [])) ++ ((decimal c ++ (space ∷ [])) ++ (decimal d ++ (newline ∷ [])))) ≡ lineOf (a ∷ b ∷ c ∷ d ∷ [])
-unfolding lineOf spaced
+line-of-four : (a b c d : ℕ) → (decimal a ++ (space ∷ [])) ++ ((decimal b ++ (space ∷ [])) ++ ((decimal c ++ (space ∷ [])) ++ (decimal d ++ (newline ∷ [])))) ≡ textLine (a ∷ b ∷ c ∷ d ∷ [])
+unfolding textLine spaced
 line-of-four a b c d = simp append-assoc
 
 -- the first bytes of a text
@@ -60,12 +60,12 @@ pub put-all : (m : ℕ) (o xs p : List ℕ) (i : ℕ) → length xs ≤ i → Pu
 put-all m o xs p i h a = put-as (take-all i xs h) (omega arith) a
 
 -- a line of four numbers, field by field
-pub put-position : (p s m f : ℕ) {o : List ℕ} {at : ℕ} {o₁ : List ℕ} {n₁ : ℕ} {o₂ : List ℕ} {n₂ : ℕ} {o₃ : List ℕ} {n₃ : ℕ} {o₄ : List ℕ} {n₄ : ℕ} → Put 6 o at (decimal p ++ (space ∷ [])) o₁ n₁ → Put 6 o₁ n₁ (decimal s ++ (space ∷ [])) o₂ n₂ → Put 6 o₂ n₂ (decimal m ++ (space ∷ [])) o₃ n₃ → Put 6 o₃ n₃ (decimal f ++ (newline ∷ [])) o₄ n₄ → Put 24 o at (lineOf (p ∷ s ∷ m ∷ f ∷ [])) o₄ n₄
+pub put-position : (p s m f : ℕ) {o : List ℕ} {at : ℕ} {o₁ : List ℕ} {n₁ : ℕ} {o₂ : List ℕ} {n₂ : ℕ} {o₃ : List ℕ} {n₃ : ℕ} {o₄ : List ℕ} {n₄ : ℕ} → Put 6 o at (decimal p ++ (space ∷ [])) o₁ n₁ → Put 6 o₁ n₁ (decimal s ++ (space ∷ [])) o₂ n₂ → Put 6 o₂ n₂ (decimal m ++ (space ∷ [])) o₃ n₃ → Put 6 o₃ n₃ (decimal f ++ (newline ∷ [])) o₄ n₄ → Put 24 o at (textLine (p ∷ s ∷ m ∷ f ∷ [])) o₄ n₄
 put-position p s m f a b c d = put-as (line-of-four p s m f) (omega arith) (put-then a (put-then b (put-then c d)))
 
 -- the header
 pub put-header : (w : ℕ) {o o₁ : List ℕ} {n₁ : ℕ} {o₂ : List ℕ} {n₂ : ℕ} → Put 16 o 0 rowWord o₁ n₁ → Put 6 o₁ n₁ (decimal w ++ (newline ∷ [])) o₂ n₂ → Put 22 o 0 (headerOf w) o₂ n₂
-unfolding headerOf lineOf spaced
+unfolding headerOf textLine spaced
 put-header w a b = put-then a b
 
 -- What is written from the buffer's start on does not depend on what stood there.
@@ -89,6 +89,6 @@ module _ (f : ℕ → List ℕ) (h : List ℕ) where
   lines-all p w a b c first lines =
       let e : p ≡ w = omega arith in put-as (ap (λ (k : ℕ). h ++ rows f k) e) (omega arith) (put-anew (first .size) lines)
 
-pub put-shown : (samples marks fronts : List ℕ) (p m : ℕ) {o : List ℕ} {at : ℕ} {q : List ℕ} {n : ℕ} → m ≡ markAt marks p → Put 24 o at (lineOf (p ∷ getD samples p 0 ∷ m ∷ getD fronts p 0 ∷ [])) q n → Put 24 o at (shownLine samples marks fronts p) q n
+pub put-shown : (samples marks fronts : List ℕ) (p m : ℕ) {o : List ℕ} {at : ℕ} {q : List ℕ} {n : ℕ} → m ≡ markAt marks p → Put 24 o at (textLine (p ∷ getD samples p 0 ∷ m ∷ getD fronts p 0 ∷ [])) q n → Put 24 o at (shownLine samples marks fronts p) q n
 unfolding shownLine
 put-shown samples marks fronts p m e a = rw e at a

@@ -24,8 +24,8 @@ use Rattle.model.proofs.Packing.{mark-packRow, length-packRow}
 use Rattle.model.proofs.Views.{length-view-samples, length-view-fronts}
 use Rattle.model.proofs.Fresh.{flags-view}
 use Rattle.model.proofs.Refusals.{side-yes, tear-yes, tables-yes}
-use Rattle.rowprint.specs.Printed.{plainTear, plainTable, positionLine}
-use Rattle.rowprint.specs.Steps.{Plain, Shows, shownLine}
+use Rattle.rowprint.specs.Printed.{printerTear, printerTable, positionLine}
+use Rattle.rowprint.specs.Steps.{PrinterSettings, Shows, shownLine}
 use Rattle.rowprint.proofs.Tables.{table-most}
 
 -- the planes that RENDER is lent have their lengths
@@ -47,16 +47,16 @@ sized w texture depths x l =
       eq-eqb (length (x .fronts)) w (l .fronts-is),
     )
 
-plain-tables : (w : ℕ) (s : Settings) → Plain w s → tablesOk s ≡ true
-plain-tables w s p = tables-yes s (record { left = λ i. rw (p .left-is) (table-most i); right = λ i. rw (p .right-is) (table-most i) })
+printer-tables : (w : ℕ) (s : Settings) → PrinterSettings w s → tablesOk s ≡ true
+printer-tables w s p = tables-yes s (record { left = λ i. rw (p .left-is) (table-most i); right = λ i. rw (p .right-is) (table-most i) })
 
-accepted : (w : ℕ) (s : Settings) (texture depths : List ℕ) (x : Strip) → 1 ≤ w → w ≤ 64 → Plain w s → Lent w texture depths x → renderNumber s 0 texture depths x ≡ 0
+accepted : (w : ℕ) (s : Settings) (texture depths : List ℕ) (x : Strip) → 1 ≤ w → w ≤ 64 → PrinterSettings w s → Lent w texture depths x → renderNumber s 0 texture depths x ≡ 0
 unfolding renderNumber
 accepted w s texture depths x h k p l =
     rw
-    (plain-tables w s p, p .tear-is, tear-yes plainTear (record { least = omega arith; most = omega arith; near = omega arith }), p .width-is, side-yes w (record { some = h; most = omega arith }), sized w texture depths x l)
+    (printer-tables w s p, p .tear-is, tear-yes printerTear (record { least = omega arith; most = omega arith; near = omega arith }), p .width-is, side-yes w (record { some = h; most = omega arith }), sized w texture depths x l)
 
-drawn : (w : ℕ) (s : Settings) (texture depths : List ℕ) (x₀ x : Strip) (r : Refusal) → 1 ≤ w → w ≤ 64 → Plain w s → Lent w texture depths x₀ → RenderPost s 0 texture depths x₀ x r → x ≡ stripOf w (viewRow false (line plainTear plainTable texture depths))
+drawn : (w : ℕ) (s : Settings) (texture depths : List ℕ) (x₀ x : Strip) (r : Refusal) → 1 ≤ w → w ≤ 64 → PrinterSettings w s → Lent w texture depths x₀ → RenderPost s 0 texture depths x₀ x r → x ≡ stripOf w (viewRow false (line printerTear printerTable texture depths))
 drawn w s texture depths x₀ x r h k p l post =
     rw (p .width-is, p .left-is, p .tear-is) at (post .drawn (post .number ∙ accepted w s texture depths x₀ h k p l))
 
@@ -111,10 +111,10 @@ module _ (w : ℕ) (some : 1 ≤ w) (most : w ≤ 64) (bs bm bf : List ℕ) (es 
         fronts-is = length-take-le w bf (omega arith);
       }
 
-  pub render-shows : (s : Settings) (texture depths : List ℕ) (x : Strip) (r : Refusal) → length texture ≡ w → length depths ≡ w → Plain w s → RenderPost s 0 texture depths (strip (take w bs) (take (markBytes w) bm) (take w bf)) x r → Shows (viewRow false (line plainTear plainTable texture depths)) w (x .samples ++ drop w bs) (x .marks ++ drop (markBytes w) bm) (x .fronts ++ drop w bf)
+  pub render-shows : (s : Settings) (texture depths : List ℕ) (x : Strip) (r : Refusal) → length texture ≡ w → length depths ≡ w → PrinterSettings w s → RenderPost s 0 texture depths (strip (take w bs) (take (markBytes w) bm) (take w bf)) x r → Shows (viewRow false (line printerTear printerTable texture depths)) w (x .samples ++ drop w bs) (x .marks ++ drop (markBytes w) bm) (x .fronts ++ drop w bf)
   render-shows s texture depths x r et ed p post =
       let e = drawn w s texture depths (strip (take w bs) (take (markBytes w) bm) (take w bf)) x r some most p (lent texture depths et ed) post in
-      shows w (line plainTear plainTable texture depths) ed x e (drop w bs) (drop (markBytes w) bm) (drop w bf)
+      shows w (line printerTear printerTable texture depths) ed x e (drop w bs) (drop (markBytes w) bm) (drop w bf)
       (omega (arith, length-drop w bs)) (omega (arith, length-drop (markBytes w) bm)) (omega (arith, length-drop w bf))
 
 -- equal lines, one after the other

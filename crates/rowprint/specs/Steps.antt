@@ -6,8 +6,8 @@ use lib.ListN.{length, getD, take}
 use Rattle.model.specs.Row.{Row}
 use Rattle.model.specs.Marks.{markAt}
 use Rattle.model.specs.declared.Settings.{Settings}
-use Rattle.rowtext.specs.Format.{lineOf}
-use Rattle.rowprint.specs.Printed.{plainTear, plainTable}
+use Rattle.rowtext.specs.Format.{textLine}
+use Rattle.rowprint.specs.Printed.{printerTear, printerTable}
 
 -- The bytes xs were written after the first `at`, at most `most` of them; `next` is past them.
 pub record Put (most : ℕ) (before : List ℕ) (at : ℕ) (xs after : List ℕ) (next : ℕ) : Type 0 where
@@ -16,15 +16,15 @@ pub record Put (most : ℕ) (before : List ℕ) (at : ℕ) (xs after : List ℕ)
   pub size : length after ≡ length before
 
 -- The settings are those of a row of w with the table of document 01.
-pub record Plain (w : ℕ) (s : Settings) : Type 0 where
+pub record PrinterSettings (w : ℕ) (s : Settings) : Type 0 where
   pub width-is : s .w ≡ w
-  pub left-is : s .left ≡ plainTable
-  pub right-is : s .right ≡ plainTable
-  pub tear-is : s .tear ≡ plainTear
+  pub left-is : s .left ≡ printerTable
+  pub right-is : s .right ≡ printerTable
+  pub tear-is : s .tear ≡ printerTear
 
 -- a position's line, from samples, packed marks and front depths
 unfoldable pub shownLine : List ℕ → List ℕ → List ℕ → ℕ → List ℕ
-shownLine samples marks fronts p = lineOf (p ∷ getD samples p 0 ∷ markAt marks p ∷ getD fronts p 0 ∷ [])
+shownLine samples marks fronts p = textLine (p ∷ getD samples p 0 ∷ markAt marks p ∷ getD fronts p 0 ∷ [])
 
 -- Samples, packed marks and front depths are those of a row, below w.
 pub record Shows (x : Row) (w : ℕ) (samples marks fronts : List ℕ) : Type 0 where

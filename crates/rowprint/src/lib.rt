@@ -11,10 +11,10 @@ ghost use Rattle.io.specs.Counts.{Counts};
 ghost use Rattle.model.specs.Lists.{rows};
 ghost use Rattle.model.specs.Row.{line};
 ghost use Rattle.model.specs.Views.{viewRow};
-ghost use Rattle.rowtext.specs.Format.{rowText, decimal, lineOf};
+ghost use Rattle.rowtext.specs.Format.{rowText, decimal, textLine};
 ghost use Rattle.rowtext.specs.Format.{digit as Format·digit};
-ghost use Rattle.rowprint.specs.Printed.{plainTear, plainTable, headerOf, printed, Answers};
-ghost use Rattle.rowprint.specs.Steps.{Put, Plain, Shows, shownLine};
+ghost use Rattle.rowprint.specs.Printed.{printerTear, printerTable, headerOf, printed, Answers};
+ghost use Rattle.rowprint.specs.Steps.{Put, PrinterSettings, Shows, shownLine};
 
 // What the left view shows of a row: samples, packed marks and front depths.
 struct Drawn {
@@ -25,7 +25,7 @@ struct Drawn {
 
 // The table of document 01: entry d is d.
 fn table() -> [u16; 256]
-    ensures { λ r. ⌜ r ≡ plainTable ⌝ }
+    ensures { λ r. ⌜ r ≡ printerTable ⌝ }
 {
     let mut entries = [0u16; 256];
     let mut d: u16 = 0;
@@ -39,7 +39,7 @@ fn table() -> [u16; 256]
 // The settings of a row of w.
 fn settings(w: usize) -> Settings
     requires { ⌜ w ≤ 64 ⌝ }
-    ensures { λ r. ⌜ Plain w r ⌝ }
+    ensures { λ r. ⌜ PrinterSettings w r ⌝ }
 {
     let entries = table();
     Settings {
@@ -73,7 +73,7 @@ fn blank() -> [u8; 64]
 // The left view of a row.
 fn draw(w: usize, texture: &[u16], depths: &[u8]) -> Drawn
     requires { ⌜ (1 ≤ w) × (w ≤ 64) × (length (now texture) ≡ w) × (length (now depths) ≡ w) ⌝ }
-    ensures { λ r. ⌜ Shows (viewRow false (line plainTear plainTable (now (texture .entry)) (now (depths .entry)))) w (r .samples) (r .marks) (r .fronts) ⌝ }
+    ensures { λ r. ⌜ Shows (viewRow false (line printerTear printerTable (now (texture .entry)) (now (depths .entry)))) w (r .samples) (r .marks) (r .fronts) ⌝ }
 {
     let mut samples = blank_samples();
     let mut marks = blank();
@@ -149,7 +149,7 @@ fn wide(b: u8) -> usize
 // Writes the line of position p.
 fn put_position(out: &mut [u8], at: usize, p: usize, sample: u16, mark: u8, front: u8) -> usize
     requires { ⌜ (p < 64) × (at + 24 ≤ length (now out)) ⌝ }
-    ensures { λ r. ⌜ Put 24 (now (out .entry)) at (lineOf (p ∷ sample ∷ mark ∷ front ∷ [])) (now (out .exit)) r ⌝ }
+    ensures { λ r. ⌜ Put 24 (now (out .entry)) at (textLine (p ∷ sample ∷ mark ∷ front ∷ [])) (now (out .exit)) r ⌝ }
 {
     let first = put_field(out, at, p, 32);
     let second = put_field(out, first, wide_sample(sample), 32);

@@ -8,7 +8,7 @@ use native.Mathlib.Nat.{mul-suc}
 use lib.ListN.{length, length-append}
 use Rattle.model.proofs.Choice.{lt-or-le}
 use Rattle.model.specs.Row.{greatest}
-use Rattle.rowtext.specs.Format.{RowText, AtMost, nearest, Valid, digit, space, newline, decimal, spaced, lineOf, textOf}
+use Rattle.rowtext.specs.Format.{RowText, AtMost, nearest, Valid, digit, space, newline, decimal, spaced, textLine, textOf}
 use Rattle.rowtext.proofs.Decimal.{decimal-digit, decimal-ends}
 
 -- the length of a number, by its digits
@@ -43,13 +43,13 @@ module _ (most size : ℕ) (each : (n : ℕ) → n ≤ most → length (decimal 
       omega
       (arith, each n (h .0), length-append (decimal n) (space ∷ spaced (m ∷ ms)), spaced-length m ms (h .1), mul-suc size (suc (length ms)))
 
-  line-length : (ns : List ℕ) → 1 ≤ length ns → AtMost most ns → length (lineOf ns) ≤ size * length ns
-  unfolding lineOf
+  line-length : (ns : List ℕ) → 1 ≤ length ns → AtMost most ns → length (textLine ns) ≤ size * length ns
+  unfolding textLine
   line-length [] h r = absurd (omega arith)
   line-length (n ∷ ns) h r = omega (arith, length-append (spaced (n ∷ ns)) (newline ∷ []), spaced-length n ns r)
 
-width-length : (w : ℕ) → w ≤ 64 → length (lineOf (w ∷ [])) ≤ 3
-unfolding lineOf spaced
+width-length : (w : ℕ) → w ≤ 64 → length (textLine (w ∷ [])) ≤ 3
+unfolding textLine spaced
 width-length w h = omega (arith, length-append (decimal w) (newline ∷ []), length-2 w (omega arith))
 
 pub text-length : (r : RowText) → Valid r → length (textOf r) ≤ 579
@@ -59,4 +59,4 @@ text-length r v =
     let b = line-length greatest 5 (λ n h. omega (arith, length-4 n (omega arith))) (r .samples) (omega arith) (v .sample-range) in
     let c = line-length nearest 4 (λ n h. omega (arith, length-3 n (omega arith))) (r .depths) (omega arith) (v .depth-range) in
     omega
-    (arith, length-append (lineOf (r .w ∷ [])) (lineOf (r .samples) ++ lineOf (r .depths)), length-append (lineOf (r .samples)) (lineOf (r .depths)))
+    (arith, length-append (textLine (r .w ∷ [])) (textLine (r .samples) ++ textLine (r .depths)), length-append (textLine (r .samples)) (textLine (r .depths)))

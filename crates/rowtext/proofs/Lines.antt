@@ -11,30 +11,30 @@ use native.Mathlib.Nat.{sub-zero}
 use native.Mathlib.Numerals.{add-one}
 use lib.ListN.{length, take, set}
 use lib.Seq.{take-suc-set}
-use Rattle.rowtext.specs.Format.{AtMost, space, newline, decimal, spaced, lineOf}
+use Rattle.rowtext.specs.Format.{AtMost, space, newline, decimal, spaced, textLine}
 use Rattle.rowtext.specs.Reader.{Step, got, nothing, readField, markOf, prepend, readLine}
 use Rattle.rowtext.proofs.Numbers.{got≢nothing, got-value, got-rest, then-got, field-printed, field-read}
 
 -- a line by its first number
-pub one-line : (n : ℕ) (l : List ℕ) → lineOf (n ∷ []) ++ l ≡ decimal n ++ (newline ∷ l)
-unfolding lineOf spaced
+pub one-line : (n : ℕ) (l : List ℕ) → textLine (n ∷ []) ++ l ≡ decimal n ++ (newline ∷ l)
+unfolding textLine spaced
 one-line n l = append-assoc (decimal n) (newline ∷ []) l
 
-more-line : (n m : ℕ) (ms l : List ℕ) → lineOf (n ∷ (m ∷ ms)) ++ l ≡ decimal n ++ (space ∷ (lineOf (m ∷ ms) ++ l))
-unfolding lineOf spaced
+more-line : (n m : ℕ) (ms l : List ℕ) → textLine (n ∷ (m ∷ ms)) ++ l ≡ decimal n ++ (space ∷ (textLine (m ∷ ms) ++ l))
+unfolding textLine spaced
 more-line n m ms l = simp append-assoc
 
-pub line-printed : (most n : ℕ) (ns l : List ℕ) → AtMost most (n ∷ ns) → readLine most (suc (length ns)) (lineOf (n ∷ ns) ++ l) ≡ got (n ∷ ns) l
+pub line-printed : (most n : ℕ) (ns l : List ℕ) → AtMost most (n ∷ ns) → readLine most (suc (length ns)) (textLine (n ∷ ns) ++ l) ≡ got (n ∷ ns) l
 unfolding readLine
 line-printed most n [] l h = rw (one-line n l, field-printed most newline n l (h .0) (omega arith))
 line-printed most n (m ∷ ms) l h =
-    rw (more-line n m ms l, field-printed most space n (lineOf (m ∷ ms) ++ l) (h .0) (omega arith), line-printed most m ms l (h .1))
+    rw (more-line n m ms l, field-printed most space n (textLine (m ∷ ms) ++ l) (h .0) (omega arith), line-printed most m ms l (h .1))
 
 -- a line that was read
 pub record IsLine (most n : ℕ) (l ns m : List ℕ) : Type 0 where
   pub count : length ns ≡ n
   pub range : AtMost most ns
-  pub text : l ≡ lineOf ns ++ m
+  pub text : l ≡ textLine ns ++ m
 
 prepend-got : (v : ℕ) (s : Step (List ℕ)) (ns m : List ℕ) → prepend v s ≡ got ns m → (vs : List ℕ) × (s ≡ got vs m) × (v ∷ vs ≡ ns)
 prepend-got v (got vs l) ns m e = (vs, ap (got vs) (got-rest e), got-value e)

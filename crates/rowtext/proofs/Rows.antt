@@ -12,7 +12,7 @@ use lib.ListN.{length, take, drop, drop-of-length-le}
 use borrow.Author.Tests.{eq-eqb, ne-eqb, eqb-false}
 use Rattle.model.proofs.Choice.{bool-cases}
 use Rattle.model.specs.Row.{greatest}
-use Rattle.rowtext.specs.Format.{RowText, rowText, AtMost, nearest, Valid, newline, decimal, lineOf, textOf}
+use Rattle.rowtext.specs.Format.{RowText, rowText, AtMost, nearest, Valid, newline, decimal, textLine, textOf}
 use Rattle.rowtext.specs.Reader.{Step, got, nothing, then, readField, readLine, readEnd, readLines, readRow, RowPost}
 use Rattle.rowtext.specs.Promise.{ReadPost}
 use Rattle.rowtext.specs.declared.Parsed.{Parsed}
@@ -22,7 +22,7 @@ use Rattle.rowtext.proofs.Positions.{from-here}
 use Rattle.rowtext.proofs.Lines.{one-line, line-printed, line-read, IsLine}
 
 -- a line of w numbers, w at least 1
-full-line-printed : (most w : ℕ) (ns l : List ℕ) → 1 ≤ w → length ns ≡ w → AtMost most ns → readLine most w (lineOf ns ++ l) ≡ got ns l
+full-line-printed : (most w : ℕ) (ns l : List ℕ) → 1 ≤ w → length ns ≡ w → AtMost most ns → readLine most w (textLine ns ++ l) ≡ got ns l
 full-line-printed most w [] l h e r = absurd (omega arith)
 full-line-printed most w (n ∷ ns) l h e r = rw (← e) (line-printed most n ns l r)
 
@@ -38,12 +38,12 @@ end-read r s (b ∷ bs) m e = got≢nothing e
 pub row-printed : (r : RowText) → Valid r → readRow (textOf r) ≡ got r []
 unfolding readRow readLines readEnd textOf
 row-printed r v =
-    let samples = full-line-printed greatest (r .w) (r .samples) (lineOf (r .depths)) (v .w-least) (v .samples) (v .sample-range) in
-    let depths : readLine nearest (r .w) (lineOf (r .depths)) ≡ got (r .depths) [] =
-    rw (append-nil (lineOf (r .depths))) at (full-line-printed nearest (r .w) (r .depths) [] (v .w-least) (v .depths) (v .depth-range)) in
+    let samples = full-line-printed greatest (r .w) (r .samples) (textLine (r .depths)) (v .w-least) (v .samples) (v .sample-range) in
+    let depths : readLine nearest (r .w) (textLine (r .depths)) ≡ got (r .depths) [] =
+    rw (append-nil (textLine (r .depths))) at (full-line-printed nearest (r .w) (r .depths) [] (v .w-least) (v .depths) (v .depth-range)) in
     rw (
-      one-line (r .w) (lineOf (r .samples) ++ lineOf (r .depths)),
-      field-printed 64 newline (r .w) (lineOf (r .samples) ++ lineOf (r .depths)) (v .w-most) (omega arith),
+      one-line (r .w) (textLine (r .samples) ++ textLine (r .depths)),
+      field-printed 64 newline (r .w) (textLine (r .samples) ++ textLine (r .depths)) (v .w-most) (omega arith),
       ne-eqb (r .w) 0 (λ e. omega arith),
       samples,
       depths,
@@ -53,7 +53,7 @@ row-printed r v =
 pub record AreLines (w : ℕ) (l : List ℕ) (r : RowText) : Type 0 where
   pub valid : Valid r
   pub width : w ≡ r .w
-  pub lines : l ≡ lineOf (r .samples) ++ lineOf (r .depths)
+  pub lines : l ≡ textLine (r .samples) ++ textLine (r .depths)
 
 lines-read : (w : ℕ) (l : List ℕ) (r : RowText) (m : List ℕ) → 1 ≤ w → w ≤ 64 → readLines w l ≡ got r m → AreLines w l r
 unfolding readLines
@@ -63,17 +63,17 @@ lines-read w l r m h k e =
     let a = full-line-read greatest w l samples rest (omega arith) h first in
     let b = full-line-read nearest w rest depths left (omega arith) h second in
     let c = end-read (rowText w samples depths) r left m end in
-    let last : rest ≡ lineOf depths = b .text ∙ ap (λ (x : List ℕ). lineOf depths ++ x) (c .1) ∙ append-nil (lineOf depths) in
+    let last : rest ≡ textLine depths = b .text ∙ ap (λ (x : List ℕ). textLine depths ++ x) (c .1) ∙ append-nil (textLine depths) in
     let valid : Valid (rowText w samples depths) =
     record { w-least = h; w-most = k; samples = a .count; depths = b .count; sample-range = a .range; depth-range = b .range } in
-    subst (AreLines w l) (c .0) (record { valid = valid; width = refl; lines = a .text ∙ ap (λ (x : List ℕ). lineOf samples ++ x) last })
+    subst (AreLines w l) (c .0) (record { valid = valid; width = refl; lines = a .text ∙ ap (λ (x : List ℕ). textLine samples ++ x) last })
 
 -- w before the two lines
 whole-text : (w : ℕ) (text rest : List ℕ) (r : RowText) → text ≡ decimal w ++ (newline ∷ rest) → AreLines w rest r → text ≡ textOf r
 unfolding textOf
 whole-text w text rest r e a =
-    e ∙ sym (one-line w rest) ∙ ap (λ (x : List ℕ). lineOf (w ∷ []) ++ x) (a .lines)
-    ∙ ap (λ (n : ℕ). lineOf (n ∷ []) ++ (lineOf (r .samples) ++ lineOf (r .depths))) (a .width)
+    e ∙ sym (one-line w rest) ∙ ap (λ (x : List ℕ). textLine (w ∷ []) ++ x) (a .lines)
+    ∙ ap (λ (n : ℕ). textLine (n ∷ []) ++ (textLine (r .samples) ++ textLine (r .depths))) (a .width)
 
 pub row-read : (text : List ℕ) (r : RowText) (m : List ℕ) → readRow text ≡ got r m → Valid r × (text ≡ textOf r)
 unfolding readRow

@@ -61,9 +61,9 @@ spaced (n ∷ []) = decimal n
 spaced (n ∷ (m ∷ ms)) = decimal n ++ (space ∷ spaced (m ∷ ms))
 
 -- Every line ends in a newline.
-unfoldable pub lineOf : List ℕ → List ℕ
-lineOf ns = spaced ns ++ (newline ∷ [])
+unfoldable pub textLine : List ℕ → List ℕ
+textLine ns = spaced ns ++ (newline ∷ [])
 
 -- Three lines: w; w samples; w depths.
 unfoldable pub textOf : RowText → List ℕ
-textOf r = lineOf (r .w ∷ []) ++ (lineOf (r .samples) ++ lineOf (r .depths))
+textOf r = textLine (r .w ∷ []) ++ (textLine (r .samples) ++ textLine (r .depths))

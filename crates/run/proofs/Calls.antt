@@ -29,7 +29,7 @@ use Rattle.model.specs.Promises.{FillPost, Sound, GetPost, EditPost, SetPost, T
 use Rattle.model.proofs.Choice.{bool-cases}
 use Rattle.model.proofs.Fresh.{fresh-total, freshTotal-total}
 use Rattle.model.proofs.Written.{written-total}
-use Rattle.model.proofs.Refusals.{unless-true, Before, Inside, Own, passed, rest-passed, common-before, own-facts, own-before, own-total, taking-before, taken-before, call-zero}
+use Rattle.model.proofs.Refusals.{unless-true, Before, Inside, OwnTests, passed, rest-passed, common-before, own-facts, own-before, own-total, taking-before, taken-before, call-zero}
 use Rattle.model.proofs.Journals.{saving-sides, taking-sides}
 use Rattle.model.proofs.Readings.{sound-read}
 use Rattle.model.proofs.Promises.{edit-settings}
@@ -99,7 +99,7 @@ settled {f = f} a t rest h =
     (λ z. let ne = eqb-false (f 0) 0 z in a .stays (unless t 8 rest) ne ∙ sym (a .stays rest ne))
 
 -- an accepted SET has passed its own tests
-pub set-own : (s : Settings) (v : ℕ) (b : Block) (c : Candidate) (n rest : ℕ) → ownThen s v b c n rest ≡ 0 → Own s v b c n
+pub set-own : (s : Settings) (v : ℕ) (b : Block) (c : Candidate) (n rest : ℕ) → ownThen s v b c n rest ≡ 0 → OwnTests s v b c n
 set-own s v b c n rest e = own-facts s v b c n (passed (own-before s v b c n) rest e)
 
 -- ---- a call, as the plain record has it

@@ -16,7 +16,7 @@ use Rattle.model.specs.Candidates.{filled}
 use Rattle.model.specs.Refusals.{numberOf, journalOk, roomOk, openNumber, savingThen}
 use Rattle.model.specs.Promises.{OpenPost}
 use Rattle.model.proofs.Refusals.{HeldOf, own-before, own-usual}
-use Rattle.run.specs.Run.{Call, Event, Run, leaves, Plain, plain, plainNumber, plainAccepted, plainNext, plainJournal, plainChange, plainReply, plainState, plainEvents, plainEnd, Kept, AllKept, Usual, AllUsual, RunPost, stateAfter}
+use Rattle.run.specs.Run.{Call, Event, Run, leaves, Plain, plain, plainNumber, plainAccepted, plainNext, plainJournal, plainChange, plainReply, plainState, plainEvent, plainEvents, plainEnd, Kept, AllKept, Usual, AllUsual, RunPost, stateAfter}
 use Rattle.run.specs.Run.Call.{get, set, move}
 use Rattle.run.specs.Run.Run.{halted, got, wrote, moved}
 use Rattle.run.proofs.Steps.{Ready, ready-open}
@@ -45,11 +45,10 @@ more :
     From (plainNext r k) cs es last → From r (k ∷ cs) (e ∷ es) last
 unfolding plainNext plainReply plainEvents plainEnd AllKept AllUsual
 more r k {e = e} {cs = cs} {es = es} f j t (rest, ready) =
-    let event : Event = record { reply = plainReply r k; after = plainState (plainNext r k); journal = plainJournal r k } in
-    let same : e ≡ event = event-same (done-reply f) (done-after f) j in (
+    let same : e ≡ plainEvent r k = event-same (done-reply f) (done-after f) j in (
       record {
         session = rest .session;
-        events = ap (λ (x : Event). x ∷ es) same ∙ ap (event ∷_) (rest .events);
+        events = ap (λ (x : Event). x ∷ es) same ∙ ap (plainEvent r k ∷_) (rest .events);
         kept = (t, subst (λ (x : State). AllKept x cs es) (sym (done-after f)) (rest .kept));
         usual = (rw (f .number) (call-usual r k), rest .usual);
       },

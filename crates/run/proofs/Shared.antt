@@ -29,7 +29,7 @@ use Rattle.model.specs.Promises.{EightBit, OpenPost}
 use Rattle.model.proofs.Choice.{bool-cases}
 use Rattle.model.proofs.Refusals.{HeldOf, unless-true, unless-rest, rest-passed, own-before, own-usual}
 use Rattle.run.specs.Run.{Event, leaves, Plain, plain, plainState, OfMove, stateAfter}
-use Rattle.run.specs.Shared.{SharedCall, SharedRun, Standing, SharedPlain, inTurn, struck, opened, withStanding, standsAs, totalOf, sharedNumber, accepted, sharedNext, sharedChange, sharedReply, sharedEvents, sharedEnd, SharedKept, AllSharedKept, Found, stackAfter, Restores, AllRestore, SharedUsual, AllSharedUsual, SharedPost, journalAfter}
+use Rattle.run.specs.Shared.{SharedCall, SharedRun, Standing, SharedPlain, inTurn, struck, opened, withStanding, standsAs, plainTotal, sharedNumber, accepted, sharedNext, sharedChange, sharedReply, sharedEvent, sharedEvents, sharedEnd, SharedKept, AllSharedKept, Found, stackAfter, Restores, AllRestore, SharedUsual, AllSharedUsual, SharedPost, journalAfter}
 use Rattle.run.specs.Shared.SharedCall.{get, set, takeBack, move}
 use Rattle.run.specs.Shared.SharedRun.{halted, got, wrote, took, moved}
 use Rattle.run.proofs.Steps.{Ready, ready-open, ready-written}
@@ -140,7 +140,7 @@ negated a b =
     +ℤ-comm b (negℤ a) ∙ ap (λ (x : ℤ). negℤ a +ℤ x) (sym (negℤ-negℤ b)) ∙ sym (negℤ-+ℤ a (negℤ b)) ∙ sym (+ℤ-idl (negℤ (a -ℤ b)))
 
 -- the change, where the depths are written that make them e
-change-of : (r : Plain) (v : ℕ) (b : Block) (c : List ℕ) {e : Depths} → written (r .settings) v b c (r .depths) ≡ e → changeOf (r .settings) (r .pictures) (r .depths) v b c ≡ pos (totalOf (plain (r .settings) (r .pictures) e)) -ℤ pos (totalOf r)
+change-of : (r : Plain) (v : ℕ) (b : Block) (c : List ℕ) {e : Depths} → written (r .settings) v b c (r .depths) ≡ e → changeOf (r .settings) (r .pictures) (r .depths) v b c ≡ pos (plainTotal (plain (r .settings) (r .pictures) e)) -ℤ pos (plainTotal r)
 unfolding changeOf
 change-of r v b c w = rw w
 
@@ -172,7 +172,7 @@ module _ (start : Plain) (j : List ℕ) where
         z,
         (
           a .after z ∙ sym (q .0 .0),
-          a .change z ∙ negated (pos (totalOf (withStanding start (k ∷ ks)))) (pos (totalOf (withStanding start ks))) ∙ ap (λ (x : ℤ). pos 0 -ℤ x) (sym (q .0 .1)),
+          a .change z ∙ negated (pos (plainTotal (withStanding start (k ∷ ks)))) (pos (plainTotal (withStanding start ks))) ∙ ap (λ (x : ℤ). pos 0 -ℤ x) (sym (q .0 .1)),
         ),
       )
 
@@ -221,12 +221,11 @@ module _ (r : SharedPlain) (k : SharedCall) {e : Event} (f : Answers r k e) wher
       Restores fs k e → From (sharedNext r k) (stackAfter fs (session r) k e) cs es last end → From r fs (k ∷ cs) (e ∷ es) last end
   unfolding sharedReply sharedEvents sharedEnd AllSharedKept AllRestore AllSharedUsual
   more fs h {cs = cs} {es = es} t b rest =
-      let event : Event = record { reply = sharedReply r k; after = session (sharedNext r k); journal = sharedNext r k .journal } in
-      let same : e ≡ event = event-same (done-reply f) after-next journal-next in
+      let same : e ≡ sharedEvent r k = event-same (done-reply f) after-next journal-next in
       record {
         state = rest .state;
         journal = rest .journal;
-        events = ap (λ (x : Event). x ∷ es) same ∙ ap (event ∷_) (rest .events);
+        events = ap (λ (x : Event). x ∷ es) same ∙ ap (sharedEvent r k ∷_) (rest .events);
         kept = (t, rw (after-next, journal-next) (rest .kept));
         restored = (b, subst (λ (x : State). AllRestore (stackAfter fs (session r) k e) x cs es) (sym after-next) (rest .restored));
         usual = (rw (f .number) (call-usual r fs h k), rest .usual);

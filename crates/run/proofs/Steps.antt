@@ -3,7 +3,7 @@
 --     ready-common, ready-open, ready-move   so that 1 to 4 and 20 never apply, a fresh OPEN of it is accepted, and MOVE goes by what is new
 --     state-total                            what is drawn is the same whatever the total was
 --     local-written                          a written block changes no more than document 01 allows
-use Prim.Native.Nat.{ℕ, _+_, _*_, _<_, _≤_}
+use Prim.Native.Nat.{ℕ, _*_, _<_, _≤_}
 use mathlib.Core.Path.{_≡_, refl, ap, sym, _∙_}
 use mathlib.Core.Bool.{Bool, true, false, and-true}
 use mathlib.Core.List.{List}
@@ -12,12 +12,13 @@ use lib.IntN.{ℤ, pos}
 use borrow.Author.Tests.{eq-eqb, lt-ltb}
 use Rattle.model.specs.declared.Settings.{Settings}
 use Rattle.model.specs.declared.Block.{Block}
+use Rattle.model.specs.Lists.{entryAt}
 use Rattle.model.specs.Views.{isRight}
 use Rattle.model.specs.Marks.{markBytes}
 use Rattle.model.specs.Planes.{Pictures, Depths, View, Held, area, withTotal, withSeat, withReference, depthsOf}
 use Rattle.model.specs.Fresh.{freshRow, freshView, shownAt, freshSample, freshCombined, fresh, freshTotal}
 use Rattle.model.specs.Blocks.{inBlock, written, changeOf}
-use Rattle.model.specs.Span.{placesOf, spanHas, limitMoves}
+use Rattle.model.specs.Span.{viewPlace, spanHas, limitMoves}
 use Rattle.model.specs.Refusals.{unless, sizeOk, planesSized, picturesSized, tablesOk, wordsOk, pictureOk, picturesOk, commonThen, openNumber}
 use Rattle.model.proofs.Choice.{bool-cases, and-left, and-right}
 use Rattle.model.proofs.Lists.{getD-row, getD-listOf}
@@ -25,7 +26,7 @@ use Rattle.model.proofs.Fresh.{DepthsSized, fresh-total, freshTotal-total, row-
 use Rattle.model.proofs.Written.{written-total, written-out}
 use Rattle.model.proofs.Locality.{Columns, sized-written, shown-stays, sample-stays, limits-stay}
 use Rattle.model.proofs.Refusals.{Size, PicturesOf, ViewOf, HeldOf, Tables, TearIn, unless-true, unless-rest, rest-passed, common-before, common-facts, common-yes, common-passed, size-yes, depths-yes, held-yes}
-use Rattle.run.specs.Run.{Plain, plain, moveNumber, shownIn, plainState, Local}
+use Rattle.run.specs.Run.{Plain, plain, moveNumber, shownIn, limitIn, plainState, Local}
 
 -- ---- the total that a call is passed
 
@@ -137,18 +138,18 @@ module _ (s : Settings) (p : Pictures) (d : Depths) (z : DepthsSized s d) (r : B
   shown-fresh : shownIn (s .w) (freshView s p d r) y x ≡ shownAt (freshRow s p d r y) x
   unfolding shownIn
   shown-fresh =
-      let a : getD (freshView s p d r .samples) (y * s .w + x) 0 ≡ getD (freshRow s p d r y .samples) x 0 =
+      let a : entryAt (freshView s p d r .samples) (s .w) y x 0 ≡ getD (freshRow s p d r y .samples) x 0 =
       sym (getD-row 0 (freshView s p d r .samples) (s .w) y x k) ∙ ap (λ (l : List ℕ). getD l x 0) (row-fresh-samples s p d z r y h) in
-      let f : getD (freshView s p d r .fronts) (y * s .w + x) 0 ≡ getD (freshRow s p d r y .fronts) x 0 =
+      let f : entryAt (freshView s p d r .fronts) (s .w) y x 0 ≡ getD (freshRow s p d r y .fronts) x 0 =
       sym (getD-row 0 (freshView s p d r .fronts) (s .w) y x k) ∙ ap (λ (l : List ℕ). getD l x 0) (row-fresh-fronts s p d z r y h) in
       let m = mark-fresh s p d z r y x h k in
       rw (a, f, m)
 
-  limit-fresh : getD (freshView s p d r .limits) (y * s .w + x) (pos 0) ≡ getD (freshRow s p d r y .limits) x (pos 0)
+  limit-fresh : limitIn (s .w) (freshView s p d r) y x ≡ getD (freshRow s p d r y .limits) x (pos 0)
   limit-fresh =
       sym (getD-row (pos 0) (freshView s p d r .limits) (s .w) y x k) ∙ ap (λ (l : List ℤ). getD l x (pos 0)) (row-fresh-limits s p d z r y h)
 
-combined-fresh : (s : Settings) (p : Pictures) (d : Depths) (y x : ℕ) → y < s .h → x < s .w → getD (freshCombined s p d) (y * s .w + x) 0 ≡ freshSample s p d y x
+combined-fresh : (s : Settings) (p : Pictures) (d : Depths) (y x : ℕ) → y < s .h → x < s .w → entryAt (freshCombined s p d) (s .w) y x 0 ≡ freshSample s p d y x
 combined-fresh s p d y x h k =
     sym (getD-row 0 (freshCombined s p d) (s .w) y x k) ∙ ap (λ (l : List ℕ). getD l x 0) (row-fresh-combined s p d y h)
     ∙ getD-listOf 0 (freshSample s p d y) (s .w) x k
@@ -178,7 +179,7 @@ module _ (s : Settings) (p : Pictures) (d : Depths) (sized : DepthsSized s d) (v
 
   -- by the settings that the SET is passed
   pub local-written : Local (withTotal s (freshTotal s p d)) v b (plainState (plain s p d)) (plainState (plain s p after))
-  unfolding plainState fresh placesOf spanHas limitMoves
+  unfolding plainState fresh viewPlace spanHas limitMoves
   local-written =
       record {
         depths = depths-out;
@@ -188,9 +189,9 @@ module _ (s : Settings) (p : Pictures) (d : Depths) (sized : DepthsSized s d) (v
             ∙ sym (ap (λ (q : View). shownIn (s .w) q y x) (view-fresh s p d r) ∙ shown-fresh s p d sized r y x h k);
         combined = λ y x h k e. combined-fresh s p after y x h k ∙ sample-stays s p d v b c sized columns y x h k e ∙ sym (combined-fresh s p d y x h k);
         limits = λ y x h k e.
-            ap (λ (q : View). getD (q .limits) (y * s .w + x) (pos 0)) (view-fresh s p after (isRight v)) ∙ limit-fresh s p after sized-after (isRight v) y x h k
+            ap (λ (q : View). limitIn (s .w) q y x) (view-fresh s p after (isRight v)) ∙ limit-fresh s p after sized-after (isRight v) y x h k
             ∙ limits-stay s p d v b c sized columns y x h k e
-            ∙ sym (ap (λ (q : View). getD (q .limits) (y * s .w + x) (pos 0)) (view-fresh s p d (isRight v)) ∙ limit-fresh s p d sized (isRight v) y x h k);
+            ∙ sym (ap (λ (q : View). limitIn (s .w) q y x) (view-fresh s p d (isRight v)) ∙ limit-fresh s p d sized (isRight v) y x h k);
         left = left-stays;
         right = right-stays;
       }

@@ -1,6 +1,6 @@
 -- Document 01, "The plain record of a run", with MOVE among the calls (document 02, card 11): runs, the plain record, and what is promised of a run as a whole
 -- (term 3). Each SET and each MOVE is passed a journal, any journal, anyone's; specs/Shared has the runs in which all are passed one (card 3).
-use Prim.Native.Nat.{ℕ, _+_, _*_, _<_}
+use Prim.Native.Nat.{ℕ, _<_}
 use mathlib.Core.Path.{_≡_}
 use mathlib.Core.Bool.{Bool, true, false, cond, _&&_}
 use mathlib.Core.List.{List, [], _∷_}
@@ -16,7 +16,7 @@ use Rattle.model.specs.declared.Refusal.{Refusal}
 use Rattle.model.specs.declared.Opened.{Opened}
 use Rattle.model.specs.declared.Trial.{Trial}
 use Rattle.model.specs.declared.Edited.{Edited}
-use Rattle.model.specs.Lists.{rowOf}
+use Rattle.model.specs.Lists.{rowOf, entryAt}
 use Rattle.model.specs.Row.{pixel}
 use Rattle.model.specs.Views.{isRight}
 use Rattle.model.specs.Marks.{markBytes, markAt}
@@ -28,6 +28,7 @@ use Rattle.model.specs.Journals.{saved, emptied}
 use Rattle.model.specs.Span.{spanHas, limitMoves}
 use Rattle.model.specs.Refusals.{numberOf, unless, tablesOk, shareOk, tearOk, wordsOk, pictureOk, ownThen, savingThen}
 use Rattle.model.specs.Promises.{GetPost, SetPost, MovePost}
+use Rattle.run.specs.Calls.{endBy, eventsBy, AllBy, AllOf}
 
 -- Each call brings its own view, block and candidate, and the bytes lent with the candidate; a SET brings a journal too. A MOVE brings the settings to move to, a
 -- reference and a journal.
@@ -79,8 +80,8 @@ pub data Run : Pictures → State → List Call → List Event → State → Typ
       Run (picturesAfter (numberOf (r .refusal)) p reference) (leaves (r .settings) (st .depths) h) cs es last →
       Run p st (move to reference j ∷ cs) (record { reply = replyOf (r .refusal) (pos 0); after = leaves (r .settings) (st .depths) h; journal = k } ∷ es) last
 
--- ---- The plain record: two depth planes, fed each call's view, block and candidate alone, and what they are drawn with: settings and pictures of OPEN, and from an
--- accepted MOVE on its settings and the textures with its reference.
+-- ---- The plain record: two depth planes, fed what each call brings (a SET and a MOVE bring a journal), no answer and nothing held; and what they are drawn with:
+-- settings and pictures of OPEN, and from an accepted MOVE on its settings and the textures with its reference.
 pub record Plain : Type 0 where
   pub settings : Settings
   pub pictures : Pictures
@@ -138,19 +139,25 @@ plainState r =
       held = fresh (r .settings) (r .pictures) (r .depths);
     }
 
+-- what a call answers and leaves by the record
+abbrev pub plainEvent : Plain → Call → Event
+plainEvent r k = record { reply = plainReply r k; after = plainState (plainNext r k); journal = plainJournal r k }
+
 unfoldable pub plainEvents : Plain → List Call → List Event
-plainEvents r [] = []
-plainEvents r (k ∷ ks) = record { reply = plainReply r k; after = plainState (plainNext r k); journal = plainJournal r k } ∷ plainEvents (plainNext r k) ks
+plainEvents r ks = eventsBy plainNext plainEvent r ks
 
 unfoldable pub plainEnd : Plain → List Call → Plain
-plainEnd r [] = r
-plainEnd r (k ∷ ks) = plainEnd (plainNext r k) ks
+plainEnd r ks = endBy plainNext r ks
 
 -- ---- What an accepted call may change, by the settings it was passed.
 
 -- what a view's held planes show at column x of row y
 unfoldable pub shownIn : ℕ → View → ℕ → ℕ → Pixel
-shownIn w v y x = pixel (getD (v .samples) (y * w + x) 0) (markAt (rowOf (v .marks) (markBytes w) y) x) (getD (v .fronts) (y * w + x) 0)
+shownIn w v y x = pixel (entryAt (v .samples) w y x 0) (markAt (rowOf (v .marks) (markBytes w) y) x) (entryAt (v .fronts) w y x 0)
+
+-- and the limit that they hold there
+abbrev pub limitIn : ℕ → View → ℕ → ℕ → ℤ
+limitIn w v y x = entryAt (v .limits) w y x (pos 0)
 
 -- column x of row y lies in the span of one of the block's rows; old and new places are the record's before and after the SET
 abbrev pub inSpans : Settings → ℕ → Block → Depths → Depths → ℕ → ℕ → Bool
@@ -160,9 +167,15 @@ inSpans s v b d e y x = inRows b y && spanHas s (isRight v) b d e y x
 -- and nothing of the other view.
 pub record Local (s : Settings) (v : ℕ) (b : Block) (before after : State) : Type 0 where
   pub depths : (r : Bool) (i : ℕ) → inBlock (s .w) b i ≡ false → getD (depthsOf (after .depths) r) i 0 ≡ getD (depthsOf (before .depths) r) i 0
-  pub shown : (r : Bool) (y x : ℕ) → y < s .h → x < s .w → inSpans s v b (before .depths) (after .depths) y x ≡ false → shownIn (s .w) (viewOf (after .held) r) y x ≡ shownIn (s .w) (viewOf (before .held) r) y x
-  pub combined : (y x : ℕ) → y < s .h → x < s .w → inSpans s v b (before .depths) (after .depths) y x ≡ false → getD (after .held .combined) (y * s .w + x) 0 ≡ getD (before .held .combined) (y * s .w + x) 0
-  pub limits : (y x : ℕ) → y < s .h → x < s .w → (inRows b y && limitMoves s (isRight v) b x) ≡ false → getD (viewOf (after .held) (isRight v) .limits) (y * s .w + x) (pos 0) ≡ getD (viewOf (before .held) (isRight v) .limits) (y * s .w + x) (pos 0)
+  pub shown :
+      (r : Bool) (y x : ℕ) → y < s .h → x < s .w → inSpans s v b (before .depths) (after .depths) y x ≡ false →
+      shownIn (s .w) (viewOf (after .held) r) y x ≡ shownIn (s .w) (viewOf (before .held) r) y x
+  pub combined :
+      (y x : ℕ) → y < s .h → x < s .w → inSpans s v b (before .depths) (after .depths) y x ≡ false →
+      entryAt (after .held .combined) (s .w) y x 0 ≡ entryAt (before .held .combined) (s .w) y x 0
+  pub limits :
+      (y x : ℕ) → y < s .h → x < s .w → (inRows b y && limitMoves s (isRight v) b x) ≡ false →
+      limitIn (s .w) (viewOf (after .held) (isRight v)) y x ≡ limitIn (s .w) (viewOf (before .held) (isRight v)) y x
   pub left : isRight v ≡ true → (after .depths .left ≡ before .depths .left) × (after .held .left ≡ before .held .left)
   pub right : isRight v ≡ false → (after .depths .right ≡ before .depths .right) × (after .held .right ≡ before .held .right)
 
@@ -185,28 +198,22 @@ Kept before (set v b c x j) e = Edits before j v b e
 Kept before (move to reference j) e = Moves before j e
 
 unfoldable pub AllKept : State → List Call → List Event → Type 0
-AllKept before [] [] = Unit
-AllKept before [] (e ∷ es) = ⊥
-AllKept before (k ∷ ks) [] = ⊥
-AllKept before (k ∷ ks) (e ∷ es) = Kept before k e × AllKept (e .after) ks es
+AllKept before ks es = AllBy (λ (st : State) k e. e .after) Kept before ks es
 
 -- The numbers that occur: a call's own, SET's of the journal, and MOVE's. 1 and 8 never do.
-abbrev pub Own : ℕ → Type 0
-Own n = (n ≡ 0) ⊎ ((n ≡ 5) ⊎ ((n ≡ 6) ⊎ ((n ≡ 7) ⊎ ((n ≡ 14) ⊎ (n ≡ 15)))))
+abbrev pub OfCall : ℕ → Type 0
+OfCall n = (n ≡ 0) ⊎ ((n ≡ 5) ⊎ ((n ≡ 6) ⊎ ((n ≡ 7) ⊎ ((n ≡ 14) ⊎ (n ≡ 15)))))
 
 abbrev pub OfMove : ℕ → Type 0
 OfMove n = (n ≡ 0) ⊎ ((n ≡ 2) ⊎ ((n ≡ 3) ⊎ ((n ≡ 4) ⊎ ((n ≡ 20) ⊎ (n ≡ 21)))))
 
 abbrev pub Usual : Call → ℕ → Type 0
-Usual (get v b c x) n = Own n
-Usual (set v b c x j) n = Own n ⊎ ((n ≡ 13) ⊎ (n ≡ 11))
+Usual (get v b c x) n = OfCall n
+Usual (set v b c x j) n = OfCall n ⊎ ((n ≡ 13) ⊎ (n ≡ 11))
 Usual (move to reference j) n = OfMove n ⊎ (n ≡ 13)
 
 unfoldable pub AllUsual : List Call → List Event → Type 0
-AllUsual [] [] = Unit
-AllUsual [] (e ∷ es) = ⊥
-AllUsual (k ∷ ks) [] = ⊥
-AllUsual (k ∷ ks) (e ∷ es) = Usual k (e .reply .number) × AllUsual ks es
+AllUsual ks es = AllOf (λ k e. Usual k (e .reply .number)) ks es
 
 -- ---- Term 3, of the list as a whole. r is the plain record of what OPEN was passed, and OPEN left `first`. What the run leaves is what a fresh OPEN leaves that is
 -- passed the settings and pictures of the record then, those of the last accepted MOVE, and its depths.
@@ -218,5 +225,4 @@ pub record RunPost (r : Plain) (first : State) (cs : List Call) (es : List Event
 
 -- the session after the last of some events
 unfoldable pub stateAfter : State → List Event → State
-stateAfter st [] = st
-stateAfter st (e ∷ es) = stateAfter (e .after) es
+stateAfter st es = endBy (λ st e. e .after) st es

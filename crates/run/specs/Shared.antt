@@ -21,7 +21,8 @@ use Rattle.model.specs.Blocks.{written, oldDepths, changeOf}
 use Rattle.model.specs.Journals.{newest, recordView, recordBlock, saved, takenBack, emptied}
 use Rattle.model.specs.Refusals.{numberOf, ownThen, savingThen, takingThen}
 use Rattle.model.specs.Promises.{GetPost, SetPost, TakeBackPost, MovePost}
-use Rattle.run.specs.Run.{Reply, Event, replyOf, leaves, picturesAfter, Plain, plain, moveNumber, plainAnswer, plainState, Edits, Moves, Own, OfMove}
+use Rattle.run.specs.Calls.{endBy, eventsBy, AllBy, AllOf}
+use Rattle.run.specs.Run.{Reply, Event, replyOf, leaves, picturesAfter, Plain, plain, moveNumber, plainAnswer, plainState, Edits, Moves, OfCall, OfMove}
 
 pub data SharedCall : Type 0 where
   get : ℕ → Block → Candidate → List ℕ → SharedCall
@@ -89,7 +90,7 @@ withStanding r ks = plain (r .settings) (r .pictures) (inTurn (r .settings) (r .
 abbrev pub standsAs : SharedPlain → Plain
 standsAs r = withStanding (r .start) (r .standing)
 
--- 1 and 8 never apply, and 2 to 4 and 20 only to MOVE; 13, 11 and 12 go by the record's journal.
+-- 1 and 8 never apply, and 2 to 4, 20 and 21 only to MOVE; 13, 11 and 12 go by the record's journal.
 unfoldable pub sharedNumber : SharedPlain → SharedCall → ℕ
 sharedNumber r (get v b c x) = ownThen (r .start .settings) v b c (length x) 0
 sharedNumber r (set v b c x) = ownThen (r .start .settings) v b c (length x) (savingThen (r .start .settings) b (r .journal) 0)
@@ -113,28 +114,28 @@ unfoldable pub sharedNext : SharedPlain → SharedCall → SharedPlain
 sharedNext r k = cond (eqb (sharedNumber r k) 0) (accepted r k) r
 
 -- the fresh total of a record
-abbrev pub totalOf : Plain → ℕ
-totalOf r = freshTotal (r .settings) (r .pictures) (r .depths)
+abbrev pub plainTotal : Plain → ℕ
+plainTotal r = freshTotal (r .settings) (r .pictures) (r .depths)
 
 -- the change: the fresh total as the call would leave the record, less that of the record as it stands; GET leaves nothing, and answers as a SET would
 unfoldable pub sharedChange : Plain → List Standing → SharedCall → ℤ
 sharedChange r ks (get v b c x) = changeOf (r .settings) (r .pictures) (withStanding r ks .depths) v b (filled b c x)
 sharedChange r ks (set v b c x) = changeOf (r .settings) (r .pictures) (withStanding r ks .depths) v b (filled b c x)
-sharedChange r ks takeBack = pos (totalOf (withStanding r (struck ks))) -ℤ pos (totalOf (withStanding r ks))
+sharedChange r ks takeBack = pos (plainTotal (withStanding r (struck ks))) -ℤ pos (plainTotal (withStanding r ks))
 sharedChange r ks (move to reference) = pos 0
 
 unfoldable pub sharedReply : SharedPlain → SharedCall → Reply
 sharedReply r k = plainAnswer (sharedNumber r k) (sharedChange (r .start) (r .standing) k)
 
+-- what a call answers and leaves by the record
+abbrev pub sharedEvent : SharedPlain → SharedCall → Event
+sharedEvent r k = record { reply = sharedReply r k; after = plainState (standsAs (sharedNext r k)); journal = sharedNext r k .journal }
+
 unfoldable pub sharedEvents : SharedPlain → List SharedCall → List Event
-sharedEvents r [] = []
-sharedEvents r (k ∷ ks) =
-    record { reply = sharedReply r k; after = plainState (standsAs (sharedNext r k)); journal = sharedNext r k .journal }
-    ∷ sharedEvents (sharedNext r k) ks
+sharedEvents r ks = eventsBy sharedNext sharedEvent r ks
 
 unfoldable pub sharedEnd : SharedPlain → List SharedCall → SharedPlain
-sharedEnd r [] = r
-sharedEnd r (k ∷ ks) = sharedEnd (sharedNext r k) ks
+sharedEnd r ks = endBy sharedNext r ks
 
 -- ---- What a call may change: no GET and no refused call changes anything; an accepted SET or TAKE BACK no more than document 01 allows, and a MOVE no depth.
 abbrev pub SharedKept : State → List ℕ → SharedCall → Event → Type 0
@@ -144,10 +145,7 @@ SharedKept before j takeBack e = Edits before j (recordView j (newest j)) (recor
 SharedKept before j (move to reference) e = Moves before j e
 
 unfoldable pub AllSharedKept : State → List ℕ → List SharedCall → List Event → Type 0
-AllSharedKept before j [] [] = Unit
-AllSharedKept before j [] (e ∷ es) = ⊥
-AllSharedKept before j (k ∷ ks) [] = ⊥
-AllSharedKept before j (k ∷ ks) (e ∷ es) = SharedKept before j k e × AllSharedKept (e .after) (e .journal) ks es
+AllSharedKept before j ks es = AllBy (λ (s : State × List ℕ) k e. (e .after, e .journal)) (λ s k e. SharedKept (s .0) (s .1) k e) (before, j) ks es
 
 -- ---- An accepted TAKE BACK restores depths, held planes and total to what they were before the newest SET standing and answers its change negated; 12 is
 -- answered exactly when none stands. This is said of the events alone: each accepted SET puts the session before it, and its change, on a stack, and an accepted
@@ -172,23 +170,18 @@ Restores (f ∷ fs) takeBack e = (e .reply .number ≡ 0) × ((e .after ≡ f .b
 Restores fs (move to reference) e = Unit
 
 unfoldable pub AllRestore : List Found → State → List SharedCall → List Event → Type 0
-AllRestore fs before [] [] = Unit
-AllRestore fs before [] (e ∷ es) = ⊥
-AllRestore fs before (k ∷ ks) [] = ⊥
-AllRestore fs before (k ∷ ks) (e ∷ es) = Restores fs k e × AllRestore (stackAfter fs before k e) (e .after) ks es
+AllRestore fs before ks es =
+    AllBy (λ (s : List Found × State) k e. (stackAfter (s .0) (s .1) k e, e .after)) (λ s k e. Restores (s .0) k e) (fs, before) ks es
 
 -- The numbers that occur: 1, 8 and 13 never do.
 abbrev pub SharedUsual : SharedCall → ℕ → Type 0
-SharedUsual (get v b c x) n = Own n
-SharedUsual (set v b c x) n = Own n ⊎ (n ≡ 11)
+SharedUsual (get v b c x) n = OfCall n
+SharedUsual (set v b c x) n = OfCall n ⊎ (n ≡ 11)
 SharedUsual takeBack n = (n ≡ 0) ⊎ (n ≡ 12)
 SharedUsual (move to reference) n = OfMove n
 
 unfoldable pub AllSharedUsual : List SharedCall → List Event → Type 0
-AllSharedUsual [] [] = Unit
-AllSharedUsual [] (e ∷ es) = ⊥
-AllSharedUsual (k ∷ ks) [] = ⊥
-AllSharedUsual (k ∷ ks) (e ∷ es) = SharedUsual k (e .reply .number) × AllSharedUsual ks es
+AllSharedUsual ks es = AllOf (λ k e. SharedUsual k (e .reply .number)) ks es
 
 -- ---- The run as a whole. r is the plain record as OPEN left it, with the session `first` and the journal j; the run leaves `last` and the journal `end`: what a
 -- fresh OPEN leaves that is passed the settings and pictures of the record then, those of the last accepted MOVE, and the depths standing.
@@ -202,5 +195,4 @@ pub record SharedPost (r : SharedPlain) (first : State) (j : List ℕ) (cs : Lis
 
 -- the journal after the last of some events
 unfoldable pub journalAfter : List ℕ → List Event → List ℕ
-journalAfter j [] = j
-journalAfter j (e ∷ es) = journalAfter (e .journal) es
+journalAfter j es = endBy (λ j e. e .journal) j es

@@ -18,7 +18,7 @@ use Rattle.model.specs.declared.Block.{Block}
 use Rattle.model.specs.declared.Candidate.{Candidate}
 use Rattle.model.specs.declared.Refusal.{Refusal}
 use Rattle.model.specs.Views.{isRight}
-use Rattle.model.specs.Planes.{Pictures, Depths, View, Held, withTotal, tableOf, textureOf, depthsOf, viewOf}
+use Rattle.model.specs.Planes.{Pictures, Depths, View, Held, withTotal, tableOf, textureOf, depthsOf, viewOf, withView}
 use Rattle.model.specs.Candidates.{filled}
 use Rattle.model.specs.Blocks.{oldDepths}
 use Rattle.model.specs.Refusals.{numberOf, tableOk, within, inRange, journalOk, roomOk, savingThen, earlyNumber}
@@ -32,7 +32,7 @@ use Rattle.trial.specs.Trial as trial
 use Rattle.trial.proofs.Sound.{aroundOf, ownOf}
 use Rattle.commit.specs.Commit as commit
 use Rattle.combine.specs.Combine.{OtherSized, BlockIn}
-use Rattle.combine.proofs.Session.{own-sized, withDepths, withView, set-depths, set-untouched, set-fresh, set-read}
+use Rattle.combine.proofs.Session.{own-sized, withDepths, set-depths, set-updated, set-fresh, set-read}
 use Rattle.decide.specs.declared.Decision.{Decision}
 use Rattle.decide.specs.Decided.{Judged}
 use Rattle.decide.proofs.Ways.{Passed, passed, tried, sum-change, sum-range}
@@ -92,7 +92,7 @@ module _ (s : Settings) (p : Pictures) (d₀ : Depths) (h₀ : Held) (b : Block)
         kept-held = λ ne. held-kept r h₀ v′ c′ (o .kept-view ne) (o .kept-combined ne);
         wrote = λ z. record {
           depths = set-depths s p d₀ h₀ v b c r side d′ v′ c′ (o .set z);
-          untouched = set-untouched s p d₀ h₀ v b c r side d′ v′ c′ (o .set z);
+          updated = set-updated s p d₀ h₀ v b c r side d′ v′ c′ (o .set z) (f .common .held);
           held = λ sound. set-fresh s p d₀ h₀ v b c r side d′ v′ c′ (o .set z) (f .common .depths) (f .common .share) sound;
           read = λ sound. set-read s p d₀ h₀ v b c r side d′ v′ c′ (o .set z) (f .common .depths) sound;
         };
@@ -112,7 +112,7 @@ module _ (s : Settings) (p : Pictures) (d₀ : Depths) (h₀ : Held) (v : ℕ) (
         change = λ _. refl;
         settings = λ z. absurd (ne z);
         depths = λ z. absurd (ne z);
-        untouched = λ z. absurd (ne z);
+        updated = λ z. absurd (ne z);
         decided = λ z. absurd (late z);
         in-range = λ z. absurd (late z);
         held = λ z. absurd (ne z);
@@ -131,7 +131,7 @@ module _ (s : Settings) (p : Pictures) (d₀ : Depths) (h₀ : Held) (v : ℕ) (
         change = λ z. e ∙ w .judged .change z;
         settings = λ z. ap (withTotal s) (w .judged .moved z);
         depths = λ z. w .wrote z .depths;
-        untouched = λ z. w .wrote z .untouched;
+        updated = λ z. w .wrote z .updated;
         decided = λ _ sound. sum-change s p d₀ h₀ v b c (w .tried) f sound;
         in-range = λ _ sound. sum-range s p d₀ h₀ v b c (w .tried) f sound;
         held = λ z sound. w .wrote z .held (sound .held);

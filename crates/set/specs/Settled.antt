@@ -12,7 +12,7 @@ use Rattle.model.specs.Fresh.{fresh}
 use Rattle.model.specs.Blocks.{written}
 use Rattle.model.specs.Journals.{saved}
 use Rattle.model.specs.Refusals.{numberOf}
-use Rattle.model.specs.Promises.{Untouched}
+use Rattle.model.specs.Promises.{Updated}
 use Rattle.trial.specs.Trial.{around, own, BlockTrial}
 use Rattle.combine.specs.Combine.{BlockSet}
 use Rattle.decide.specs.declared.Decision.{Decision}
@@ -34,7 +34,7 @@ pub record OwnSettled (tear : Tear) (right : Bool) (t : List ℕ) (share toleran
 -- they stand and as they are read.
 pub record Wrote (s : Settings) (p : Pictures) (d₀ d : Depths) (h₀ h : Held) (v : ℕ) (b : Block) (c : List ℕ) : Type 0 where
   pub depths : d ≡ written s v b c d₀
-  pub untouched : Untouched s v b h₀ h
+  pub updated : Updated s v b h₀ h
   pub held : h₀ ≡ fresh s p d₀ → h ≡ fresh s p (written s v b c d₀)
   pub read : readHeld h₀ ≡ fresh s p d₀ → readHeld h ≡ fresh s p (written s v b c d₀)
 

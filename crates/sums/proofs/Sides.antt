@@ -1,7 +1,7 @@
--- The combined sample told by one view of the other: two marks 0 of near depths are shared, and elsewhere one of the two samples is taken.
+-- The combined sample told by one view of the other: two marks 0 of near depths are blended, and elsewhere one of the two samples is taken.
 --     both-shown, shown-both    joined marks are 0 where both are, and there alone
 --     own-hole                  the tie of two holes as a sum
---     paired-shared             where the two are shared
+--     paired-blended            where the two are blended
 --     paired-chosen             where one is taken
 --     paired-most               it is no greater than a sample may be
 use Prim.Native.Nat.{ℕ, _+_, _-_, _*_, _<_, _≤_}
@@ -16,7 +16,7 @@ use lib.Bits.{bitOr, or-add-and, and-le-l, and-le-r}
 use borrow.Author.Tests.{ltb-true, ltb-false, lt-ltb, le-ltb, le-leb, lt-leb, eq-eqb, eqb-true}
 use Rattle.model.specs.declared.Pixel.{Pixel}
 use Rattle.model.specs.Row.{greatest}
-use Rattle.model.specs.Combined.{apart, shared, bothShown, bothHoles, combinedOf}
+use Rattle.model.specs.Combined.{apart, blended, bothShown, bothHoles, combinedOf}
 use Rattle.model.proofs.Choice.{bool-cases}
 use Rattle.model.proofs.Totals.{combined-most}
 use Rattle.sums.specs.Sides.{paired, ownShare, ownHole, prefersOwn}
@@ -42,12 +42,12 @@ unfolding ownHole
 own-hole true own other = rw (add-one own)
 own-hole false own other = rw (add-zero own)
 
--- the two parts of the shared sample make up the whole, whichever is named first
-pub paired-shared : (right : Bool) (share tolerance : ℕ) (own other : Pixel) → share ≤ 64 → own .mark ≡ 0 → other .mark ≡ 0 → apart (own .front) (other .front) ≤ tolerance → shared (ownShare right share) (other .sample) (own .sample) ≡ paired right share tolerance own other
-unfolding paired combinedOf bothShown shared ownShare
-paired-shared true share tolerance own other h p q near =
+-- the two parts of the blended sample make up the whole, whichever is named first
+pub paired-blended : (right : Bool) (share tolerance : ℕ) (own other : Pixel) → share ≤ 64 → own .mark ≡ 0 → other .mark ≡ 0 → apart (own .front) (other .front) ≤ tolerance → blended (ownShare right share) (other .sample) (own .sample) ≡ paired right share tolerance own other
+unfolding paired combinedOf bothShown blended ownShare
+paired-blended true share tolerance own other h p q near =
     rw (eq-eqb _ _ p, eq-eqb _ _ q, le-leb (apart (other .front) (own .front)) tolerance (omega arith))
-paired-shared false share tolerance own other h p q near =
+paired-blended false share tolerance own other h p q near =
     let rest : 64 - (64 - share) ≡ share = omega arith in
     rw (
       eq-eqb _ _ p,

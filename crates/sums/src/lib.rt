@@ -6,7 +6,7 @@ ghost use lib.Dec.{leb};
 ghost use lib.ListN.{length};
 ghost use Rattle.model.specs.Lists.{sumTo};
 ghost use Rattle.model.specs.Row.{greatest, sampleIn};
-ghost use Rattle.model.specs.Combined.{worst, apart, shared, squareError};
+ghost use Rattle.model.specs.Combined.{worst, apart, blended, squareError};
 ghost use Rattle.sums.specs.Squares.{Squares};
 ghost use Rattle.sums.specs.Sides.{ownShare, prefersOwn, paired};
 
@@ -1068,9 +1068,9 @@ fn near(a: u8, b: u8, tolerance: u8) -> bool
 }
 
 // Two samples mixed by the share of the right one, in sixty-fourths.
-fn shared(share: u8, left: u16, right: u16) -> u16
+fn blended(share: u8, left: u16, right: u16) -> u16
     requires { ⌜ share ≤ 64 ⌝ }
-    ensures { λ r. ⌜ r ≡ shared share left right ⌝ }
+    ensures { λ r. ⌜ r ≡ blended share left right ⌝ }
 {
     ((left as u32 * (64 - share) as u32 + right as u32 * share as u32 + 32) / 64) as u16
 }
@@ -1110,7 +1110,7 @@ pub fn paired(right: bool, share: u8, tolerance: u8, own: Pixel, other: Pixel) -
     if own.mark | other.mark == 0 {
         if near(own.front, other.front, tolerance) {
             let part = own_share(right, share);
-            return shared(part, other.sample, own.sample);
+            return blended(part, other.sample, own.sample);
         }
     }
     if prefers(right, own, other) {

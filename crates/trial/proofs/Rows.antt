@@ -30,7 +30,7 @@ use Rattle.pixel.specs.declared.Edge.{Edge}
 use Rattle.row.specs.Drawing.{firstAt, spanTop, pixelBelow, EdgeHeld}
 use Rattle.row.proofs.Below.{below-pixel}
 use Rattle.row.proofs.Limits.{limit-true, edge-true}
-use Rattle.trial.specs.Trial.{spanStart, spanStop, Own, Around, standing, tried, combinedWith, errorWith, shownIn, rowTotal, RowHeld, heldError, shownError, Summed, Measured, covered, RowTrial}
+use Rattle.trial.specs.Trial.{spanStart, spanStop, Own, Around, standing, tried, combinedWith, errorWith, entryPixel, rowTotal, RowHeld, heldError, shownError, Summed, Measured, covered, RowTrial}
 use Rattle.trial.proofs.Candidates.{tried-edited}
 use Rattle.trial.proofs.Positions.{stop-within, outside-span}
 
@@ -132,8 +132,8 @@ unfolding rowTotal shownError
 total-positions o l =
     let r = o .right in
     let w = width l in
-    sym (sum-seen r (λ i. errorWith o (shownIn r l i) i) w)
-    ∙ sum-same (λ p. errorWith o (shownIn r l (entryOf r w p)) (entryOf r w p)) (λ p. errorWith o (pixelAt l p) (entryOf r w p)) w
+    sym (sum-seen r (λ i. errorWith o (entryPixel r l i) i) w)
+    ∙ sum-same (λ p. errorWith o (entryPixel r l (entryOf r w p)) (entryOf r w p)) (λ p. errorWith o (pixelAt l p) (entryOf r w p)) w
     (λ p h. ap (λ (q : ℕ). errorWith o (pixelAt l q) (entryOf r w p)) (entry-entry r w p h))
 
 module _ (o : Around) (v : Own) (x : List ℕ) (first : ℕ) (ok : tableOk (v .table) ≡ true) (fits : first + length x ≤ length (v .depths)) (some : 0 < length x) (most : length (v .depths) ≤ 4096) (same : length (v .limits) ≡ length (v .depths)) (g : Edge) (held : EdgeHeld (seen (o .right) (v .limits)) (first + length x) (spanTop (v .table) (seen (o .right) (v .depths)) (seen (o .right) (v .limits)) (first + length x)) g) where

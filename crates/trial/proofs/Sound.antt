@@ -36,7 +36,7 @@ use Rattle.marks.specs.Puts.{heldPixel}
 use Rattle.marks.proofs.Held.{entry-read, held-fresh}
 use Rattle.sums.specs.Sides.{paired}
 use Rattle.trial.specs.Trial as specs
-use Rattle.trial.specs.Trial.{Around, around, own, aroundRow, ownRow, shownIn, combinedWith, errorWith, rowTotal, RowHeld, totalBefore, totalAfter, BlockTrial}
+use Rattle.trial.specs.Trial.{Around, around, own, aroundRow, ownRow, entryPixel, combinedWith, errorWith, rowTotal, RowHeld, totalBefore, totalAfter, BlockTrial}
 use Rattle.trial.proofs.Candidates.{seen-candidate}
 
 -- ---- sums
@@ -82,7 +82,7 @@ module _ (s : Settings) (p : Pictures) (d : Depths) (h : Held) (sized : DepthsSi
 
   module _ (right : Bool) (y : ℕ) (k : y < s .h) where
     -- what the view's own row shows, for any depths
-    own-shown : (g : Depths) → DepthsSized s g → (x : ℕ) → x < s .w → shownAt (freshRow s p g right y) x ≡ shownIn right (seenLine right (lineOf s p g right y)) x
+    own-shown : (g : Depths) → DepthsSized s g → (x : ℕ) → x < s .w → shownAt (freshRow s p g right y) x ≡ entryPixel right (seenLine right (lineOf s p g right y)) x
     unfolding freshRow
     own-shown g sg x l =
         let m = lineOf s p g right y in
@@ -90,11 +90,11 @@ module _ (s : Settings) (p : Pictures) (d : Depths) (h : Held) (sized : DepthsSi
         ∙ ap (λ (n : ℕ). pixelAt (seenLine right m) (entryOf right n x)) (sym (length-seen right (m .depths)))
 
     -- the combined sample, for depths whose other view draws the row that is held
-    combined-sample : (g : Depths) → DepthsSized s g → freshRow s p g (not right) y ≡ freshRow s p d (not right) y → (x : ℕ) → x < s .w → freshSample s p g y x ≡ combinedWith (aroundRow (s .w) (aroundOf s p h right) y) (shownIn right (seenLine right (lineOf s p g right y)) x) x
+    combined-sample : (g : Depths) → DepthsSized s g → freshRow s p g (not right) y ≡ freshRow s p d (not right) y → (x : ℕ) → x < s .w → freshSample s p g y x ≡ combinedWith (aroundRow (s .w) (aroundOf s p h right) y) (entryPixel right (seenLine right (lineOf s p g right y)) x) x
     combined-sample g sg e x l =
         sample-paired s p g right y x
         ∙ ap (λ (q : Pixel). paired right (s .share) (s .tolerance) q (shownAt (freshRow s p g (not right) y) x)) (own-shown g sg x l)
-        ∙ ap (λ (q : Pixel). paired right (s .share) (s .tolerance) (shownIn right (seenLine right (lineOf s p g right y)) x) q)
+        ∙ ap (λ (q : Pixel). paired right (s .share) (s .tolerance) (entryPixel right (seenLine right (lineOf s p g right y)) x) q)
         (ap (λ (r : Row). shownAt r x) e ∙ sym (held-shown (not right) y x k l))
 
     total-row : (g : Depths) → DepthsSized s g → freshRow s p g (not right) y ≡ freshRow s p d (not right) y → sumTo (errorAt s p g y) (s .w) ≡ rowTotal (aroundRow (s .w) (aroundOf s p h right) y) (seenLine right (lineOf s p g right y))
@@ -103,11 +103,11 @@ module _ (s : Settings) (p : Pictures) (d : Depths) (h : Held) (sized : DepthsSi
         let l = seenLine right (lineOf s p g right y) in
         let o = aroundRow (s .w) (aroundOf s p h right) y in
         let n : width l ≡ s .w = length-seen right (lineOf s p g right y .depths) ∙ wide s p g sg right y k in
-        sum-same (errorAt s p g y) (λ i. errorWith o (shownIn right l i) i) (s .w)
+        sum-same (errorAt s p g y) (λ i. errorWith o (entryPixel right l i) i) (s .w)
         (λ x m.
         ap (λ (q : ℕ). squareError q (sampleIn (p .reference) (y * s .w + x))) (combined-sample g sg e x m)
-        ∙ ap (λ (q : ℕ). squareError (combinedWith o (shownIn right l x) x) q) (sym (sampleIn-row (p .reference) (s .w) y x m)))
-        ∙ ap (sumTo (λ i. errorWith o (shownIn right l i) i)) (sym n)
+        ∙ ap (λ (q : ℕ). squareError (combinedWith o (entryPixel right l x) x) q) (sym (sampleIn-row (p .reference) (s .w) y x m)))
+        ∙ ap (sumTo (λ i. errorWith o (entryPixel right l i) i)) (sym n)
 
     true-limit : (n : ℕ) → n < length (rowOf (depthsOf d right) (s .w) y) → getD (seen right (rowOf (viewOf h right .limits) (s .w) y)) n (pos 0) ≡ limitAt (seenLine right (lineOf s p d right y)) n
     unfolding freshRow

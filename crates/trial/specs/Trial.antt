@@ -96,17 +96,17 @@ abbrev pub errorWith : Around → Pixel → ℕ → ℕ
 errorWith o q i = squareError (combinedWith o q i) (sampleIn (o .reference) i)
 
 -- the view's pixel at entry i
-abbrev pub shownIn : Bool → Line → ℕ → Pixel
-shownIn right l i = pixelAt l (entryOf right (width l) i)
+abbrev pub entryPixel : Bool → Line → ℕ → Pixel
+entryPixel right l i = pixelAt l (entryOf right (width l) i)
 
 -- the total of a row drawn fresh
 unfoldable pub rowTotal : Around → Line → ℕ
-rowTotal o l = sumTo (λ i. errorWith o (shownIn (o .right) l i) i) (width l)
+rowTotal o l = sumTo (λ i. errorWith o (entryPixel (o .right) l i) i) (width l)
 
 -- The row holds the truth, for an edit of columns below n: the limits from column n on, and the combined row.
 pub record RowHeld (o : Around) (v : Own) (n : ℕ) : Type 0 where
   pub limits : (c : ℕ) → n ≤ c → c < length (v .depths) → getD (seen (o .right) (v .limits)) c (pos 0) ≡ limitAt (standing (o .right) v) c
-  pub combined : (i : ℕ) → i < length (v .depths) → sampleIn (o .combined) i ≡ combinedWith o (shownIn (o .right) (standing (o .right) v) i) i
+  pub combined : (i : ℕ) → i < length (v .depths) → sampleIn (o .combined) i ≡ combinedWith o (entryPixel (o .right) (standing (o .right) v) i) i
 
 -- the squared error at position p of a row of w, as the view reads it: of the held combined row, and where the view shows the pixels g
 unfoldable pub heldError : Around → ℕ → ℕ → ℕ

@@ -674,8 +674,16 @@ fn tried(
     }
     let block = turn.block;
     let candidate = turn.candidate;
-    let answer = get::get(
-        given,
+    let tear = given.tear;
+    let answer = decide::decide(
+        given.w,
+        given.h,
+        &given.left,
+        &given.right,
+        given.share,
+        given.tolerance,
+        tear,
+        given.total,
         left,
         right,
         reference,

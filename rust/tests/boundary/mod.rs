@@ -1,80 +1,18 @@
-//! GET, SET, TAKE BACK and MOVE through the library's own symbols, declared here once more: a candidate of any kind, as a C program
-//! may pass it, and answers that a refused call must leave alone.
+//! GET, SET, TAKE BACK and MOVE through the library's own symbols: a candidate of any kind, as a C program may pass it, and answers
+//! that a refused call must leave alone.
 #![allow(dead_code)] // each test program uses its own part
+
+#[path = "../../src/raw/symbols.rs"]
+mod symbols;
 
 use crate::random::Tried;
 use luphwezane::{Block, Pictures, Planes, PlanesMut, Point, Refusal, Settings};
-
-/// `luph_private_shape` of the C header.
-#[repr(C)]
-struct Shape {
-    kind: u32,
-    values: [u8; 2],
-    start: Point,
-    end: Point,
-}
+use symbols::*;
 
 impl Shape {
     fn of(candidate: &Tried) -> Shape {
-        Shape { kind: candidate.kind, values: candidate.values, start: candidate.start, end: candidate.end }
+        Shape { kind: candidate.kind, value: candidate.values, start: candidate.start, end: candidate.end }
     }
-}
-
-#[rustfmt::skip]
-extern "C" {
-    fn luph_raw_get(
-        w: u32, h: u32, left: *const u16, right: *const u16, share: u8, tolerance: u8, widest_gap: u8, torn_distance: u8, total: u64,
-        left_texture: *const u16, left_texture_len: usize, right_texture: *const u16, right_texture_len: usize,
-        reference: *const u16, reference_len: usize,
-        left_depths: *const u8, left_depths_len: usize, right_depths: *const u8, right_depths_len: usize,
-        left_samples: *const u16, left_samples_len: usize, left_fronts: *const u8, left_fronts_len: usize,
-        left_limits: *const i16, left_limits_len: usize, left_marks: *const u8, left_marks_len: usize,
-        right_samples: *const u16, right_samples_len: usize, right_fronts: *const u8, right_fronts_len: usize,
-        right_limits: *const i16, right_limits_len: usize, right_marks: *const u8, right_marks_len: usize,
-        combined: *const u16, combined_len: usize,
-        view: u32, block: Block, shape: Shape, bytes: *const u8, bytes_len: usize,
-        change: *mut i64,
-    ) -> u32;
-    fn luph_raw_set(
-        settings: Settings,
-        left_texture: *const u16, left_texture_len: usize, right_texture: *const u16, right_texture_len: usize,
-        reference: *const u16, reference_len: usize,
-        left_depths: *mut u8, left_depths_len: usize, right_depths: *mut u8, right_depths_len: usize,
-        left_samples: *mut u16, left_samples_len: usize, left_fronts: *mut u8, left_fronts_len: usize,
-        left_limits: *mut i16, left_limits_len: usize, left_marks: *mut u8, left_marks_len: usize,
-        right_samples: *mut u16, right_samples_len: usize, right_fronts: *mut u8, right_fronts_len: usize,
-        right_limits: *mut i16, right_limits_len: usize, right_marks: *mut u8, right_marks_len: usize,
-        combined: *mut u16, combined_len: usize,
-        journal: *mut u32, journal_len: usize,
-        view: u32, block: Block, shape: Shape, bytes: *const u8, bytes_len: usize,
-        change: *mut i64, total: *mut u64,
-    ) -> u32;
-    fn luph_raw_move(
-        settings: Settings, to: Settings,
-        left_texture: *const u16, left_texture_len: usize, right_texture: *const u16, right_texture_len: usize,
-        reference: *const u16, reference_len: usize,
-        left_depths: *const u8, left_depths_len: usize, right_depths: *const u8, right_depths_len: usize,
-        left_samples: *mut u16, left_samples_len: usize, left_fronts: *mut u8, left_fronts_len: usize,
-        left_limits: *mut i16, left_limits_len: usize, left_marks: *mut u8, left_marks_len: usize,
-        right_samples: *mut u16, right_samples_len: usize, right_fronts: *mut u8, right_fronts_len: usize,
-        right_limits: *mut i16, right_limits_len: usize, right_marks: *mut u8, right_marks_len: usize,
-        combined: *mut u16, combined_len: usize,
-        journal: *mut u32, journal_len: usize,
-        total: *mut u64,
-    ) -> u32;
-    fn luph_raw_take_back(
-        settings: Settings,
-        left_texture: *const u16, left_texture_len: usize, right_texture: *const u16, right_texture_len: usize,
-        reference: *const u16, reference_len: usize,
-        left_depths: *mut u8, left_depths_len: usize, right_depths: *mut u8, right_depths_len: usize,
-        left_samples: *mut u16, left_samples_len: usize, left_fronts: *mut u8, left_fronts_len: usize,
-        left_limits: *mut i16, left_limits_len: usize, left_marks: *mut u8, left_marks_len: usize,
-        right_samples: *mut u16, right_samples_len: usize, right_fronts: *mut u8, right_fronts_len: usize,
-        right_limits: *mut i16, right_limits_len: usize, right_marks: *mut u8, right_marks_len: usize,
-        combined: *mut u16, combined_len: usize,
-        journal: *mut u32, journal_len: usize,
-        change: *mut i64, total: *mut u64,
-    ) -> u32;
 }
 
 /// What a refused call must leave in its answers.

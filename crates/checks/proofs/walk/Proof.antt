@@ -8,7 +8,7 @@ use Rattle.model.specs.declared.Settings.{Settings}
 use Rattle.model.specs.Planes.{Pictures, Depths, Held, pictures, depths, view, held}
 use Rattle.model.proofs.Refusals.{Common, common-facts}
 use Rattle.checks.specs.declared.Place.the-variants.{None}
-use Rattle.checks.specs.Walks.{settingsOf}
+use Rattle.checks.specs.Walks.{drawingSettings}
 use Rattle.model.specs.Combined.{squareError}
 use Rattle.model.proofs.Totals.{sample-most}
 use Rattle.checks.proofs.Positions.{RowIn, row-within, EntryIn, entry-within}
@@ -19,7 +19,7 @@ use Rattle.checks.proofs.walk.Tie as tie
 
 abbrev Inv-loop : tie.InvT-loop
 Inv-loop w h leftTable rightTable share tolerance tear squares left right reference leftDepths rightDepths leftSamples leftFronts leftLimits leftMarks rightSamples rightFronts rightLimits rightMarks combined samples0 fronts0 limits0 marks0 samples1 fronts1 limits1 marks1 place₀ sum₀ y x₀ place sum x =
-    (x ≤ w) × ((place ≡ None) × Passed (settingsOf w h leftTable rightTable share tolerance tear) (pictures left right reference) (depths leftDepths rightDepths)
+    (x ≤ w) × ((place ≡ None) × Passed (drawingSettings w h leftTable rightTable share tolerance tear) (pictures left right reference) (depths leftDepths rightDepths)
     (held (view leftSamples leftFronts leftLimits leftMarks) (view rightSamples rightFronts rightLimits rightMarks) combined) y x sum)
 
 abbrev μ-loop : tie.MeasureT-loop
@@ -28,7 +28,7 @@ abbrev μ-loop : tie.MeasureT-loop
 
 abbrev Inv-rows : tie.InvT-rows
 Inv-rows w h leftTable rightTable share tolerance tear squares left right reference leftDepths rightDepths leftSamples leftFronts leftLimits leftMarks rightSamples rightFronts rightLimits rightMarks combined samples0₀ fronts0₀ limits0₀ marks0₀ samples1₀ fronts1₀ limits1₀ marks1₀ place₀ sum₀ y₀ samples0 fronts0 limits0 marks0 samples1 fronts1 limits1 marks1 place sum y =
-    (y ≤ h) × ((place ≡ None) × Passed (settingsOf w h leftTable rightTable share tolerance tear) (pictures left right reference) (depths leftDepths rightDepths)
+    (y ≤ h) × ((place ≡ None) × Passed (drawingSettings w h leftTable rightTable share tolerance tear) (pictures left right reference) (depths leftDepths rightDepths)
     (held (view leftSamples leftFronts leftLimits leftMarks) (view rightSamples rightFronts rightLimits rightMarks) combined) y 0 sum)
 
 abbrev μ-rows : tie.MeasureT-rows
@@ -61,7 +61,7 @@ column-of c = c .before .before .before .before .before .before .before .before 
 -- ---- what the call is lent
 
 abbrev settings-of : Start → Settings
-settings-of c = let a = c .args in settingsOf (a .w) (a .h) (a .leftTable .now) (a .rightTable .now) (a .share) (a .tolerance) (a .tear)
+settings-of c = let a = c .args in drawingSettings (a .w) (a .h) (a .leftTable .now) (a .rightTable .now) (a .share) (a .tolerance) (a .tear)
 
 abbrev pictures-of : Start → Pictures
 pictures-of c = let a = c .args in pictures (a .left .now) (a .right .now) (a .reference .now)

@@ -3,7 +3,7 @@ use native.Mathlib.Omega.{arith}
 use borrow.Author.Needs.{needs}
 use Rattle.model.specs.Blocks.{blockDepths}
 use Rattle.model.proofs.Written.{length-old}
-use Rattle.journal.proofs.Chains.{room-end, room-index}
+use Rattle.model.proofs.Refusals.{room-end, room-index}
 use Rattle.journal.proofs.Records.{saved-is, word-inside}
 use Rattle.journal.proofs.save.Statement.{statement}
 use Rattle.journal.proofs.save.Tie as tie

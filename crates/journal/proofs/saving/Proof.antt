@@ -3,9 +3,10 @@ use mathlib.Core.Path.{sym, _∙_}
 use native.Mathlib.Omega.{arith}
 use borrow.Author.Needs.{needs}
 use borrow.Author.Tests.{not-true, not-false}
+use Rattle.model.proofs.Refusals.{room-short, room-far, room-yes}
 use Rattle.model.proofs.Journals.{journal-words, next-inside}
 use Rattle.validate.specs.Numbers.{sides}
-use Rattle.journal.proofs.Chains.{product-most, room-short, room-far, room-yes, saving-journal, saving-full, saving-none}
+use Rattle.journal.proofs.Chains.{product-most, saving-journal, saving-full, saving-none}
 use Rattle.journal.proofs.saving.Statement.{statement}
 use Rattle.journal.proofs.saving.Tie as tie
 

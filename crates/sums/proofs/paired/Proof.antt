@@ -1,15 +1,15 @@
--- `sums::paired` meets its contract: the sample is shared, or one of the two is taken.
+-- `sums::paired` meets its contract: the sample is blended, or one of the two is taken.
 use mathlib.Core.Path.{_≡_, _∙_}
 use mathlib.Core.Bool.{cond}
 use mathlib.Core.Logic.{⊎-elim}
 use borrow.Author.Needs.{needs}
 use borrow.Author.Tests.{leb-true, leb-false}
 use Rattle.sums.specs.Sides.{paired}
-use Rattle.sums.proofs.Sides.{both-shown, shown-both, paired-shared, paired-chosen}
+use Rattle.sums.proofs.Sides.{both-shown, shown-both, paired-blended, paired-chosen}
 use Rattle.sums.proofs.paired.Statement.{statement}
 use Rattle.sums.proofs.paired.Tie as tie
 
--- past the first test the two are not shared: a mark is not 0, or the depths are too far apart
+-- past the first test the two are not blended: a mark is not 0, or the depths are too far apart
 chosen : (c : tie.After-prefers) →
     let a = c .before .before .before .before .args in
     cond (c .prefers .result) (a .own .sample) (a .other .sample) ≡ paired (a .right) (a .share) (a .tolerance) (a .own) (a .other)
@@ -28,8 +28,8 @@ returns c =
     let a = s .args in
     let marks = both-shown (a .own .mark) (a .other .mark) (c .before .before .before .before .if1 .taken) in
     let near = leb-true _ _ (rw (c .before .before .before .near .ensures) at (c .before .before .if2 .taken)) in
-    c .shared .ensures
-    ∙ rw (c .before .own-share .ensures .0) (paired-shared (a .right) (a .share) (a .tolerance) (a .own) (a .other) (s .pre) (marks .0) (marks .1) near)
+    c .blended .ensures
+    ∙ rw (c .before .own-share .ensures .0) (paired-blended (a .right) (a .share) (a .tolerance) (a .own) (a .other) (s .pre) (marks .0) (marks .1) near)
 
 returns-2 : tie.Need-returns-2
 returns-2 c = rw (c .if3 .taken) at (chosen (c .before))

@@ -1,0 +1,58 @@
+-- What a caller learns of a call of `luph_raw_open`, as the prover reads its contract, carries OPEN's promise, by computation alone; after an accepted call the theorems of a
+-- run hold. a is what the call was passed, x what it left, both in the order of the parameters, and r is the number answered.
+use Prim.Native.Nat.{ℕ}
+use mathlib.Core.Path.{_≡_}
+use mathlib.Core.List.{List}
+use denote.Ref.{now}
+use denote.Triple.Clauses.{AtExit}
+use contract.Lifetimes.{Lfts}
+use borrow.Fn.Kinds.{Dens, endedOf}
+use Rattle.model.specs.declared.Settings.{Settings}
+use Rattle.model.specs.Planes.{Pictures, Depths, Held, State, pictures, depths, view, held}
+use Rattle.model.specs.Promises.{OpenPost}
+use Rattle.run.specs.Run.{Call, Event, Run, leaves, plain, RunPost}
+use Rattle.run.specs.Shared.{SharedCall, SharedRun, opened, SharedPost}
+use Rattle.luphwezane.specs.Exports.{OpenedOut}
+use Rattle.luphwezane.proofs.luph_raw_open.Reads as open-reads
+use Rattle.luphwezane.proofs.luph_raw_open.Kinds as open-kinds
+use Rattle.bound.specs.Latest.{latest}
+use Rattle.bound.proofs.Steps.{opened-run, opened-shared}
+
+module _ (κs : Lfts 16) (a : Dens κs open-kinds.ps) (r : ℕ) (x : AtExit (endedOf 16 open-kinds.ps open-kinds.r) κs) (learnt : open-reads.Learnt κs a r x) where
+  abbrev s : Settings
+  s = a .0
+
+  abbrev p : Pictures
+  p = pictures (now (a .1 .0)) (now (a .1 .1 .0)) (now (a .1 .1 .1 .0))
+
+  abbrev d₀ : Depths
+  d₀ = depths (now (a .1 .1 .1 .1 .0)) (now (a .1 .1 .1 .1 .1 .0))
+
+  abbrev h₀ : Held
+  h₀ = held (view (now (a .1 .1 .1 .1 .1 .1 .0)) (now (a .1 .1 .1 .1 .1 .1 .1 .0)) (now (a .1 .1 .1 .1 .1 .1 .1 .1 .0)) (now (a .1 .1 .1 .1 .1 .1 .1 .1 .1 .0))) (view (now (a .1 .1 .1 .1 .1 .1 .1 .1 .1 .1 .0)) (now (a .1 .1 .1 .1 .1 .1 .1 .1 .1 .1 .1 .0)) (now (a .1 .1 .1 .1 .1 .1 .1 .1 .1 .1 .1 .1 .0)) (now (a .1 .1 .1 .1 .1 .1 .1 .1 .1 .1 .1 .1 .1 .0))) (now (a .1 .1 .1 .1 .1 .1 .1 .1 .1 .1 .1 .1 .1 .1 .0))
+
+  abbrev h : Held
+  h = held (view (now (x .1 .1 .1 .1 .1 .1 .0)) (now (x .1 .1 .1 .1 .1 .1 .1 .0)) (now (x .1 .1 .1 .1 .1 .1 .1 .1 .0)) (now (x .1 .1 .1 .1 .1 .1 .1 .1 .1 .0))) (view (now (x .1 .1 .1 .1 .1 .1 .1 .1 .1 .1 .0)) (now (x .1 .1 .1 .1 .1 .1 .1 .1 .1 .1 .1 .0)) (now (x .1 .1 .1 .1 .1 .1 .1 .1 .1 .1 .1 .1 .0)) (now (x .1 .1 .1 .1 .1 .1 .1 .1 .1 .1 .1 .1 .1 .0))) (now (x .1 .1 .1 .1 .1 .1 .1 .1 .1 .1 .1 .1 .1 .1 .0))
+
+  abbrev j₀ : List ℕ
+  j₀ = now (a .1 .1 .1 .1 .1 .1 .1 .1 .1 .1 .1 .1 .1 .1 .1 .0)
+
+  abbrev j : List ℕ
+  j = now (x .1 .1 .1 .1 .1 .1 .1 .1 .1 .1 .1 .1 .1 .1 .1 .0)
+
+  abbrev total₀ : ℕ
+  total₀ = now (a .1 .1 .1 .1 .1 .1 .1 .1 .1 .1 .1 .1 .1 .1 .1 .1 .0)
+
+  abbrev total : ℕ
+  total = now (x .1 .1 .1 .1 .1 .1 .1 .1 .1 .1 .1 .1 .1 .1 .1 .1 .0)
+
+  pub open-bound : OpenedOut (OpenPost s p d₀ h₀ h j₀ j) r total₀ total
+  open-bound = learnt
+
+  pub open-run : r ≡ 0 → {cs : List Call} {es : List Event} {last : State} → Run p (leaves (latest r s s total) d₀ h) cs es last → RunPost (plain s p d₀) (leaves (latest r s s total) d₀ h) cs es last
+  open-run = opened-run open-bound
+
+  pub open-shared :
+      r ≡ 0 → {cs : List SharedCall} {es : List Event} {last : State} {end : List ℕ} → SharedRun p (leaves (latest r s s total) d₀ h) j cs es last end →
+      SharedPost (opened (plain s p d₀) j₀) (leaves (latest r s s total) d₀ h) j cs es last end
+  open-shared = opened-shared open-bound

@@ -1,0 +1,150 @@
+-- A call of an exported function is a step of a run, of document 01's and of one with one journal: the events of the run say what the call answered by its number and
+-- through its pointers, and the run goes on from the settings that the caller has then.
+--     got-step, wrote-step, moved-step                 of a run in which each call is passed its own journal
+--     got-shared, wrote-shared, took-shared, moved-shared   of a run with one journal
+--     opened-run, opened-shared                        an accepted OPEN and a run after it: the theorems of a run hold
+use Prim.Native.Nat.{ℕ}
+use mathlib.Core.Path.{_≡_, sym, ap, _∙_, subst}
+use mathlib.Core.List.{List, [], _∷_}
+use lib.Dec.{eqb}
+use lib.IntN.{ℤ, pos}
+use borrow.Author.Tests.{eqb-true, eqb-false}
+use Rattle.model.specs.declared.Settings.{Settings}
+use Rattle.model.specs.declared.Block.{Block}
+use Rattle.model.specs.declared.Candidate.{Candidate}
+use Rattle.model.specs.declared.Opened.{Opened}
+use Rattle.model.specs.declared.Trial.{Trial}
+use Rattle.model.specs.declared.Edited.{Edited}
+use Rattle.model.specs.Planes.{Pictures, Depths, Held, State, withTotal, withSeat, withReference}
+use Rattle.model.specs.Refusals.{numberOf}
+use Rattle.model.specs.Promises.{FillPost, OpenPost, MovePost, GetPost, EditPost, SetPost, TakeBackPost}
+use Rattle.model.proofs.Choice.{bool-cases}
+use Rattle.run.specs.Run.{Call, Reply, Event, Run, replyOf, leaves, picturesAfter, plain, plainAnswer, RunPost}
+use Rattle.run.specs.Run.Call.{get, set, move}
+use Rattle.run.specs.Run.Run.{got, wrote, moved}
+use Rattle.run.specs.Shared.{SharedCall, SharedRun, opened, SharedPost}
+use Rattle.run.specs.Shared.SharedCall.{get as shared-get, set as shared-set, takeBack, move as shared-move}
+use Rattle.run.specs.Shared.SharedRun.{got as also-got, wrote as also-wrote, took, moved as also-moved}
+use Rattle.run.proofs.Run.{session-run}
+use Rattle.run.proofs.Shared.{shared-run}
+use Rattle.luphwezane.specs.Exports.{OpenedOut, TriedOut, EditedOut}
+use Rattle.bound.specs.Latest.{latest}
+
+-- ---- what was answered, as the events and the settings of a run have it
+
+reply-told :
+    (number n : ℕ) (change found : ℤ) → number ≡ n → (number ≡ 0 → change ≡ found) → ((n ≡ 0 → ⊥) → found ≡ pos 0) →
+    record { number = n; change = found } ≡ plainAnswer number change
+unfolding plainAnswer
+reply-told number n change found e told none =
+    bool-cases (eqb number 0)
+    (λ t. rw (t, e, told (eqb-true number 0 t)))
+    (λ t. rw (t, e, none (λ z. eqb-false number 0 t (e ∙ z))))
+
+settings-told :
+    (number total t : ℕ) (s n given : Settings) → (number ≡ 0 → total ≡ given .total) → (number ≡ 0 → given ≡ withTotal n t) → ((number ≡ 0 → ⊥) → given ≡ s) →
+    given ≡ latest number s n total
+settings-told number total t s n given told accepted refused =
+    bool-cases (eqb number 0)
+    (λ u. let z = eqb-true number 0 u in rw (u, told z) (accepted z ∙ sym (ap (λ (x : Settings). withTotal n (x .total)) (accepted z))))
+    (λ u. rw u (refused (eqb-false number 0 u)))
+
+module _ {promise : Trial → Type 0} {number : ℕ} {change₀ change : ℤ} (o : TriedOut promise number change₀ change) where
+  tried-reply : ((numberOf (o .reply .refusal) ≡ 0 → ⊥) → o .reply .change ≡ pos 0) → replyOf (o .reply .refusal) (o .reply .change) ≡ plainAnswer number change
+  tried-reply = reply-told number (numberOf (o .reply .refusal)) change (o .reply .change) (o .number-is) (o .accepted)
+
+module _ {promise : Edited → Type 0} {number total₀ total : ℕ} {change₀ change : ℤ} (o : EditedOut promise number change₀ change total₀ total) {s : Settings} {p : Pictures} {d₀ d : Depths} {h₀ h : Held} {v : ℕ} {b : Block} {c : List ℕ} {early : ℕ} {found : ℤ} (edit : EditPost s p d₀ d h₀ h v b c early found (o .reply)) where
+  edited-reply : replyOf (o .reply .refusal) (o .reply .change) ≡ plainAnswer number change
+  edited-reply =
+      reply-told number (numberOf (o .reply .refusal)) change (o .reply .change) (o .number-is) (λ z. o .accepted z .0) (edit .refused-change)
+
+  edited-settings : o .reply .settings ≡ latest number s s total
+  edited-settings =
+      settings-told number total _ s s (o .reply .settings) (λ z. o .accepted z .1) (λ z. edit .settings (sym (o .number-is) ∙ z)) (λ ne. edit .refused-settings (λ z. ne (o .number-is ∙ z)))
+
+module _ {promise : Opened → Type 0} {number total₀ total : ℕ} (o : OpenedOut promise number total₀ total) {s n : Settings} {p : Pictures} {d : Depths} {h₀ h : Held} {j₀ j : List ℕ} (fill : FillPost s n p d h₀ h j₀ j (o .reply)) where
+  filled-settings : o .reply .settings ≡ latest number s n total
+  filled-settings =
+      settings-told number total _ s n (o .reply .settings) (o .accepted) (λ z. fill .settings (sym (o .number-is) ∙ z)) (λ ne. fill .refused-settings (λ z. ne (o .number-is ∙ z)))
+
+-- ---- the steps
+
+-- A step K from a run R that follows it, both over the settings answered: said of other settings and another reply that are the same.
+as-told : {r r′ : Reply} {n n′ : Settings} (K : Reply → Settings → Type 0) (R : Settings → Type 0) → r ≡ r′ → n ≡ n′ → (R n → K r n) → R n′ → K r′ n′
+as-told {r} {r′} {n} {n′} K R er en step run = subst (K r′) en (subst (λ (y : Reply). K y n) er (step (subst R (sym en) run)))
+
+module _ {p : Pictures} {st : State} {v : ℕ} {b : Block} {c : Candidate} {x : List ℕ} {number : ℕ} {change₀ change : ℤ} (o : TriedOut (GetPost (st .settings) p (st .depths) (st .held) v b c x) number change₀ change) where
+  pub got-step :
+      {last : State} {cs : List Call} {es : List Event} → Run p st cs es last →
+      Run p st (get v b c x ∷ cs) (record { reply = plainAnswer number change; after = st; journal = [] } ∷ es) last
+  got-step k = rw (tried-reply o (o .promised .refused)) at (got (o .reply) (o .promised) k)
+
+  pub got-shared :
+      {last : State} {j end : List ℕ} {cs : List SharedCall} {es : List Event} → SharedRun p st j cs es last end →
+      SharedRun p st j (shared-get v b c x ∷ cs) (record { reply = plainAnswer number change; after = st; journal = j } ∷ es) last end
+  got-shared k = rw (tried-reply o (o .promised .refused)) at (also-got (o .reply) (o .promised) k)
+
+module _ {p : Pictures} {st : State} {d : Depths} {h : Held} {j k : List ℕ} {v : ℕ} {b : Block} {c : Candidate} {x : List ℕ} {number total₀ total : ℕ} {change₀ change : ℤ} (o : EditedOut (SetPost (st .settings) p (st .depths) d (st .held) h j k v b c x) number change₀ change total₀ total) where
+  pub wrote-step :
+      {last : State} {cs : List Call} {es : List Event} → Run p (leaves (latest number (st .settings) (st .settings) total) d h) cs es last →
+      Run p st (set v b c x j ∷ cs) (record { reply = plainAnswer number change; after = leaves (latest number (st .settings) (st .settings) total) d h; journal = k } ∷ es) last
+  wrote-step {last} {cs} {es} =
+      as-told (λ r n. Run p st (set v b c x j ∷ cs) (record { reply = r; after = leaves n d h; journal = k } ∷ es) last) (λ n. Run p (leaves n d h) cs es last)
+      (edited-reply o (o .promised .edit)) (edited-settings o (o .promised .edit)) (wrote (o .reply) d h k (o .promised))
+
+  pub wrote-shared :
+      {last : State} {end : List ℕ} {cs : List SharedCall} {es : List Event} → SharedRun p (leaves (latest number (st .settings) (st .settings) total) d h) k cs es last end →
+      SharedRun p st j (shared-set v b c x ∷ cs) (record { reply = plainAnswer number change; after = leaves (latest number (st .settings) (st .settings) total) d h; journal = k } ∷ es) last end
+  wrote-shared {last} {end} {cs} {es} =
+      as-told (λ r n. SharedRun p st j (shared-set v b c x ∷ cs) (record { reply = r; after = leaves n d h; journal = k } ∷ es) last end) (λ n. SharedRun p (leaves n d h) k cs es last end)
+      (edited-reply o (o .promised .edit)) (edited-settings o (o .promised .edit)) (also-wrote (o .reply) d h k (o .promised))
+
+pub took-shared :
+    {p : Pictures} {st : State} {d : Depths} {h : Held} {j k : List ℕ} {number total₀ total : ℕ} {change₀ change : ℤ} →
+    EditedOut (TakeBackPost (st .settings) p (st .depths) d (st .held) h j k) number change₀ change total₀ total →
+    {last : State} {end : List ℕ} {cs : List SharedCall} {es : List Event} → SharedRun p (leaves (latest number (st .settings) (st .settings) total) d h) k cs es last end →
+    SharedRun p st j (takeBack ∷ cs) (record { reply = plainAnswer number change; after = leaves (latest number (st .settings) (st .settings) total) d h; journal = k } ∷ es) last end
+took-shared {p} {st} {d} {h} {j} {k} o {last} {end} {cs} {es} =
+    as-told (λ r n. SharedRun p st j (takeBack ∷ cs) (record { reply = r; after = leaves n d h; journal = k } ∷ es) last end) (λ n. SharedRun p (leaves n d h) k cs es last end)
+    (edited-reply o (o .promised .edit)) (edited-settings o (o .promised .edit)) (took (o .reply) d h k (o .promised))
+
+-- A MOVE answers no change.
+module _ {p : Pictures} {st : State} {h : Held} {to : Settings} {reference j k : List ℕ} {number total₀ total : ℕ} (o : OpenedOut (MovePost (st .settings) to (withReference p reference) (st .depths) (st .held) h j k) number total₀ total) where
+  pub moved-step :
+      {last : State} {cs : List Call} {es : List Event} →
+      Run (picturesAfter number p reference) (leaves (latest number (st .settings) (withSeat (st .settings) to) total) (st .depths) h) cs es last →
+      Run p st (move to reference j ∷ cs)
+      (record { reply = record { number = number; change = pos 0 }; after = leaves (latest number (st .settings) (withSeat (st .settings) to) total) (st .depths) h; journal = k } ∷ es) last
+  moved-step {last} {cs} {es} =
+      as-told (λ r n. Run p st (move to reference j ∷ cs) (record { reply = r; after = leaves n (st .depths) h; journal = k } ∷ es) last)
+      (λ n. Run (picturesAfter number p reference) (leaves n (st .depths) h) cs es last) (ap (λ (i : ℕ). record { number = i; change = pos 0 }) (sym (o .number-is))) (filled-settings o (o .promised))
+      (λ run. moved (o .reply) h k (o .promised) (subst (λ (i : ℕ). Run (picturesAfter i p reference) (leaves (o .reply .settings) (st .depths) h) cs es last) (o .number-is) run))
+
+  pub moved-shared :
+      {last : State} {end : List ℕ} {cs : List SharedCall} {es : List Event} →
+      SharedRun (picturesAfter number p reference) (leaves (latest number (st .settings) (withSeat (st .settings) to) total) (st .depths) h) k cs es last end →
+      SharedRun p st j (shared-move to reference ∷ cs)
+      (record { reply = record { number = number; change = pos 0 }; after = leaves (latest number (st .settings) (withSeat (st .settings) to) total) (st .depths) h; journal = k } ∷ es) last end
+  moved-shared {last} {end} {cs} {es} =
+      as-told (λ r n. SharedRun p st j (shared-move to reference ∷ cs) (record { reply = r; after = leaves n (st .depths) h; journal = k } ∷ es) last end)
+      (λ n. SharedRun (picturesAfter number p reference) (leaves n (st .depths) h) k cs es last end) (ap (λ (i : ℕ). record { number = i; change = pos 0 }) (sym (o .number-is))) (filled-settings o (o .promised))
+      (λ run. also-moved (o .reply) h k (o .promised) (subst (λ (i : ℕ). SharedRun (picturesAfter i p reference) (leaves (o .reply .settings) (st .depths) h) k cs es last end) (o .number-is) run))
+
+-- ---- the theorems
+
+module _ {s : Settings} {p : Pictures} {d : Depths} {h₀ h : Held} {j₀ j : List ℕ} {number total₀ total : ℕ} (o : OpenedOut (OpenPost s p d h₀ h j₀ j) number total₀ total) (accepted : number ≡ 0) where
+  pub opened-run :
+      {cs : List Call} {es : List Event} {last : State} → Run p (leaves (latest number s s total) d h) cs es last →
+      RunPost (plain s p d) (leaves (latest number s s total) d h) cs es last
+  opened-run {cs} {es} {last} run =
+      let e = filled-settings o (o .promised) in
+      subst (λ (n : Settings). RunPost (plain s p d) (leaves n d h) cs es last) e
+      (session-run s p d h₀ h j₀ j (o .reply) (o .promised) (sym (o .number-is) ∙ accepted) (subst (λ (n : Settings). Run p (leaves n d h) cs es last) (sym e) run))
+
+  pub opened-shared :
+      {cs : List SharedCall} {es : List Event} {last : State} {end : List ℕ} → SharedRun p (leaves (latest number s s total) d h) j cs es last end →
+      SharedPost (opened (plain s p d) j₀) (leaves (latest number s s total) d h) j cs es last end
+  opened-shared {cs} {es} {last} {end} run =
+      let e = filled-settings o (o .promised) in
+      subst (λ (n : Settings). SharedPost (opened (plain s p d) j₀) (leaves n d h) j cs es last end) e
+      (shared-run s p d h₀ h j₀ j (o .reply) (o .promised) (sym (o .number-is) ∙ accepted) (subst (λ (n : Settings). SharedRun p (leaves n d h) j cs es last end) (sym e) run))
