@@ -51,21 +51,21 @@ settings-told number total t s n given told accepted refused =
 
 module _ {promise : Trial → Type 0} {number : ℕ} {change₀ change : ℤ} (o : TriedOut promise number change₀ change) where
   tried-reply : ((numberOf (o .reply .refusal) ≡ 0 → ⊥) → o .reply .change ≡ pos 0) → replyOf (o .reply .refusal) (o .reply .change) ≡ plainAnswer number change
-  tried-reply = reply-told number (numberOf (o .reply .refusal)) change (o .reply .change) (o .number-is) (o .accepted)
+  tried-reply = reply-told number (numberOf (o .reply .refusal)) change (o .reply .change) (o .told .number-is) (o .told .accepted)
 
 module _ {promise : Edited → Type 0} {number total₀ total : ℕ} {change₀ change : ℤ} (o : EditedOut promise number change₀ change total₀ total) {s : Settings} {p : Pictures} {d₀ d : Depths} {h₀ h : Held} {v : ℕ} {b : Block} {c : List ℕ} {early : ℕ} {found : ℤ} (edit : EditPost s p d₀ d h₀ h v b c early found (o .reply)) where
   edited-reply : replyOf (o .reply .refusal) (o .reply .change) ≡ plainAnswer number change
   edited-reply =
-      reply-told number (numberOf (o .reply .refusal)) change (o .reply .change) (o .number-is) (λ z. o .accepted z .0) (edit .refused-change)
+      reply-told number (numberOf (o .reply .refusal)) change (o .reply .change) (o .told .number-is) (λ z. o .told .accepted z .0) (edit .refused-change)
 
   edited-settings : o .reply .settings ≡ latest number s s total
   edited-settings =
-      settings-told number total _ s s (o .reply .settings) (λ z. o .accepted z .1) (λ z. edit .settings (sym (o .number-is) ∙ z)) (λ ne. edit .refused-settings (λ z. ne (o .number-is ∙ z)))
+      settings-told number total _ s s (o .reply .settings) (λ z. o .told .accepted z .1) (λ z. edit .settings (sym (o .told .number-is) ∙ z)) (λ ne. edit .refused-settings (λ z. ne (o .told .number-is ∙ z)))
 
 module _ {promise : Opened → Type 0} {number total₀ total : ℕ} (o : OpenedOut promise number total₀ total) {s n : Settings} {p : Pictures} {d : Depths} {h₀ h : Held} {j₀ j : List ℕ} (fill : FillPost s n p d h₀ h j₀ j (o .reply)) where
   filled-settings : o .reply .settings ≡ latest number s n total
   filled-settings =
-      settings-told number total _ s n (o .reply .settings) (o .accepted) (λ z. fill .settings (sym (o .number-is) ∙ z)) (λ ne. fill .refused-settings (λ z. ne (o .number-is ∙ z)))
+      settings-told number total _ s n (o .reply .settings) (o .told .accepted) (λ z. fill .settings (sym (o .told .number-is) ∙ z)) (λ ne. fill .refused-settings (λ z. ne (o .told .number-is ∙ z)))
 
 -- ---- the steps
 
@@ -117,8 +117,8 @@ module _ {p : Pictures} {st : State} {h : Held} {to : Settings} {reference j k :
       (record { reply = record { number = number; change = pos 0 }; after = leaves (latest number (st .settings) (withSeat (st .settings) to) total) (st .depths) h; journal = k } ∷ es) last
   moved-step {last} {cs} {es} =
       as-told (λ r n. Run p st (move to reference j ∷ cs) (record { reply = r; after = leaves n (st .depths) h; journal = k } ∷ es) last)
-      (λ n. Run (picturesAfter number p reference) (leaves n (st .depths) h) cs es last) (ap (λ (i : ℕ). record { number = i; change = pos 0 }) (sym (o .number-is))) (filled-settings o (o .promised))
-      (λ run. moved (o .reply) h k (o .promised) (subst (λ (i : ℕ). Run (picturesAfter i p reference) (leaves (o .reply .settings) (st .depths) h) cs es last) (o .number-is) run))
+      (λ n. Run (picturesAfter number p reference) (leaves n (st .depths) h) cs es last) (ap (λ (i : ℕ). record { number = i; change = pos 0 }) (sym (o .told .number-is))) (filled-settings o (o .promised))
+      (λ run. moved (o .reply) h k (o .promised) (subst (λ (i : ℕ). Run (picturesAfter i p reference) (leaves (o .reply .settings) (st .depths) h) cs es last) (o .told .number-is) run))
 
   pub moved-shared :
       {last : State} {end : List ℕ} {cs : List SharedCall} {es : List Event} →
@@ -127,8 +127,8 @@ module _ {p : Pictures} {st : State} {h : Held} {to : Settings} {reference j k :
       (record { reply = record { number = number; change = pos 0 }; after = leaves (latest number (st .settings) (withSeat (st .settings) to) total) (st .depths) h; journal = k } ∷ es) last end
   moved-shared {last} {end} {cs} {es} =
       as-told (λ r n. SharedRun p st j (shared-move to reference ∷ cs) (record { reply = r; after = leaves n (st .depths) h; journal = k } ∷ es) last end)
-      (λ n. SharedRun (picturesAfter number p reference) (leaves n (st .depths) h) k cs es last end) (ap (λ (i : ℕ). record { number = i; change = pos 0 }) (sym (o .number-is))) (filled-settings o (o .promised))
-      (λ run. also-moved (o .reply) h k (o .promised) (subst (λ (i : ℕ). SharedRun (picturesAfter i p reference) (leaves (o .reply .settings) (st .depths) h) k cs es last end) (o .number-is) run))
+      (λ n. SharedRun (picturesAfter number p reference) (leaves n (st .depths) h) k cs es last end) (ap (λ (i : ℕ). record { number = i; change = pos 0 }) (sym (o .told .number-is))) (filled-settings o (o .promised))
+      (λ run. also-moved (o .reply) h k (o .promised) (subst (λ (i : ℕ). SharedRun (picturesAfter i p reference) (leaves (o .reply .settings) (st .depths) h) k cs es last end) (o .told .number-is) run))
 
 -- ---- the theorems
 
@@ -139,7 +139,7 @@ module _ {s : Settings} {p : Pictures} {d : Depths} {h₀ h : Held} {j₀ j : Li
   opened-run {cs} {es} {last} run =
       let e = filled-settings o (o .promised) in
       subst (λ (n : Settings). RunPost (plain s p d) (leaves n d h) cs es last) e
-      (session-run s p d h₀ h j₀ j (o .reply) (o .promised) (sym (o .number-is) ∙ accepted) (subst (λ (n : Settings). Run p (leaves n d h) cs es last) (sym e) run))
+      (session-run s p d h₀ h j₀ j (o .reply) (o .promised) (sym (o .told .number-is) ∙ accepted) (subst (λ (n : Settings). Run p (leaves n d h) cs es last) (sym e) run))
 
   pub opened-shared :
       {cs : List SharedCall} {es : List Event} {last : State} {end : List ℕ} → SharedRun p (leaves (latest number s s total) d h) j cs es last end →
@@ -147,4 +147,4 @@ module _ {s : Settings} {p : Pictures} {d : Depths} {h₀ h : Held} {j₀ j : Li
   opened-shared {cs} {es} {last} {end} run =
       let e = filled-settings o (o .promised) in
       subst (λ (n : Settings). SharedPost (opened (plain s p d) j₀) (leaves n d h) j cs es last end) e
-      (shared-run s p d h₀ h j₀ j (o .reply) (o .promised) (sym (o .number-is) ∙ accepted) (subst (λ (n : Settings). SharedRun p (leaves n d h) j cs es last end) (sym e) run))
+      (shared-run s p d h₀ h j₀ j (o .reply) (o .promised) (sym (o .told .number-is) ∙ accepted) (subst (λ (n : Settings). SharedRun p (leaves n d h) j cs es last end) (sym e) run))

@@ -51,9 +51,9 @@ module _ {s : Settings} {p : Pictures} {d₀ : Depths} {h₀ h₁ : Held} {j₀ 
       Visited s p d₀ d₀ h₀ h₁ j₀ j₁ v b c x (told change₀ back₀ t₀) (told change₀ back₀ t₁) (record { opened = n₁; written = 0; taken = 0 })
   not-opened ne =
       record {
-        number = o .number-is ∙ o .promised .number;
-        refused = λ _. (refl, (refl, ap (told change₀ back₀) (o .refused ne)));
-        refused-planes = λ _. (refl, (o .promised .refused-held (λ z. ne (o .number-is ∙ z)), o .promised .refused-journal (λ z. ne (o .number-is ∙ z))));
+        number = o .told .number-is ∙ o .promised .number;
+        refused = λ _. (refl, (refl, ap (told change₀ back₀) (o .told .refused ne)));
+        refused-planes = λ _. (refl, (o .promised .refused-held (λ z. ne (o .told .number-is ∙ z)), o .promised .refused-journal (λ z. ne (o .told .number-is ∙ z))));
         written = λ z. absurd (ne z);
         undone = λ z. absurd (ne z);
         nothing = λ z. absurd (ne z);
@@ -66,10 +66,10 @@ module _ {s : Settings} {p : Pictures} {d₀ : Depths} {h₀ h₁ : Held} {j₀ 
     opens = rw z refl
 
     writes : latest n₂ (withTotal s t₁) (withTotal s t₁) t₂ ≡ withTotal s t₂
-    writes = latest-total n₂ t₁ t₂ (withTotal s t₁) refl (λ ne. w .refused ne .1)
+    writes = latest-total n₂ t₁ t₂ (withTotal s t₁) refl (λ ne. w .told .refused ne .1)
 
     takes : latest n₃ (withTotal s t₂) (withTotal s t₂) t₃ ≡ withTotal s t₃
-    takes = latest-total n₃ t₂ t₃ (withTotal s t₂) refl (λ ne. k .refused ne .1)
+    takes = latest-total n₃ t₂ t₃ (withTotal s t₂) refl (λ ne. k .told .refused ne .1)
 
     abbrev start : State
     start = leaves (withTotal s t₁) d₀ h₁
@@ -114,17 +114,17 @@ module _ {s : Settings} {p : Pictures} {d₀ : Depths} {h₀ h₁ : Held} {j₀ 
 
     pub opened-and-set : Visited s p d₀ d₃ h₀ h₃ j₀ j₃ v b c x (told change₀ back₀ t₀) (told change back t₃) (record { opened = n₁; written = n₂; taken = n₃ })
     opened-and-set =
-        let yes = sym (o .number-is) ∙ z in
+        let yes = sym (o .told .number-is) ∙ z in
         record {
-          number = o .number-is ∙ o .promised .number;
+          number = o .told .number-is ∙ o .promised .number;
           refused = λ ne. absurd (ne z);
           refused-planes = λ ne. absurd (ne z);
           written = λ _. written-as;
           undone = λ _ y. (set-undone y .0, set-undone y .1 .1);
-          nothing = λ _ ne. let f = set-refused ne .0 in (f, (w .refused ne .0, k .refused (λ y. absurd (omega (arith, f, y))) .0));
+          nothing = λ _ ne. let f = set-refused ne .0 in (f, (w .told .refused ne .0, k .told .refused (λ y. absurd (omega (arith, f, y))) .0));
           restored = λ _. (
             ap (λ (t : State). t .depths) same,
-            (ap (λ (t : State). t .held) same ∙ o .promised .held yes, ap (λ (t : State). t .settings .total) same ∙ o .accepted z ∙ ap (λ (n : Settings). n .total) (o .promised .settings yes)),
+            (ap (λ (t : State). t .held) same ∙ o .promised .held yes, ap (λ (t : State). t .settings .total) same ∙ o .told .accepted z ∙ ap (λ (n : Settings). n .total) (o .promised .settings yes)),
           );
           journal = λ _. posted .journal;
         }

@@ -1,5 +1,2 @@
--- Why it holds: laws of the walk, by topic.
-pub mod Positions
-pub mod Drawing
-pub mod Passed
+-- Why CHECK reports what the walk finds.
 pub mod Ways

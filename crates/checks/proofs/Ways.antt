@@ -17,9 +17,9 @@ use Rattle.model.proofs.Choice.{bool-cases}
 use Rattle.model.proofs.Fresh.{fresh-total, freshTotal-total}
 use Rattle.validate.specs.Numbers.{commonNumber}
 use Rattle.validate.proofs.Numbers.{lengthsOf, common-number}
-use Rattle.checks.specs.declared.Place.the-variants.{None, At}
-use Rattle.checks.specs.declared.Found.{Found}
-use Rattle.checks.specs.Walks.{placeOf, Walked, verdictOf}
+use Rattle.scan.specs.declared.Place.the-variants.{None, At}
+use Rattle.scan.specs.declared.Found.{Found}
+use Rattle.scan.specs.Walks.{placeOf, Walked, verdictOf}
 
 -- a report of the drawing is no refusal
 report-number : (s : Settings) (p : Pictures) (d : Depths) (h : Held) → reportNumber (reportOf s p d h) ≡ 0

@@ -17,7 +17,8 @@ use Rattle.planes.proofs.Splices.{splice-none, put-back}
 use Rattle.planes.proofs.SeenParts.{seen-all}
 use Rattle.marks.specs.Puts.{putMarks}
 use Rattle.pixel.specs.declared.Edge.{Edge}
-use Rattle.row.specs.Drawing.{firstAt, pixelBelow}
+use Rattle.places.specs.Positions.{firstAt}
+use Rattle.row.specs.Drawing.{pixelBelow}
 use Rattle.commit.specs.Commit.{partShown, PartDrawn, Redrawn}
 use Rattle.commit.proofs.Shown.{length-shown, none-shown, flags-shown}
 

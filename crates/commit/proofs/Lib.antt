@@ -3,6 +3,5 @@ pub mod Lent
 pub mod Shown
 pub mod Drawn
 pub mod Edits
-pub mod Limits
 pub mod Rows
 pub mod Planes

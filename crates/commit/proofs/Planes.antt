@@ -32,7 +32,8 @@ use Rattle.model.specs.Refusals.{tableOk}
 use Rattle.pixel.specs.declared.Edge.{Edge}
 use Rattle.marks.specs.Puts.{putMarks, heldPixel}
 use Rattle.marks.proofs.Puts.{spare-putMarks, put-packRow}
-use Rattle.commit.specs.Commit.{Sized, RowIn, drawnRow, SoundRow, heldIn, Bounded, Changed, spanShown, RowRedrawn, RowCommitted}
+use Rattle.commit.specs.Commit.{Sized, RowIn, drawnRow, SoundRow, heldIn, Bounded, spanShown, RowRedrawn, RowCommitted}
+use Rattle.edits.specs.Changes.{Changed}
 use Rattle.commit.proofs.Shown.{length-shown, flags-shown, low-shown}
 use Rattle.commit.proofs.Rows.{RowStep, shown-fits, limits-new, plane-new}
 

@@ -25,13 +25,16 @@ use Rattle.planes.proofs.Splices.{length-splice}
 use Rattle.planes.proofs.Fills.{filled-rest, filled-change}
 use Rattle.planes.proofs.SeenParts.{first-fits}
 use Rattle.pixel.specs.declared.Edge.{Edge}
-use Rattle.row.specs.Drawing.{firstAt, spanTop, pixelBelow, EdgeHeld}
+use Rattle.places.specs.Positions.{firstAt}
+use Rattle.limits.specs.Limits.{spanTop, EdgeHeld}
+use Rattle.row.specs.Drawing.{pixelBelow}
 use Rattle.row.proofs.Below.{below-pixel, first-within}
-use Rattle.row.proofs.Limits.{limit-least, limit-true, edge-true}
-use Rattle.commit.specs.Commit.{Relimited, Stretched, spanShown}
+use Rattle.limits.proofs.Limits.{limit-least, limit-true, edge-true}
+use Rattle.edits.specs.Changes.{Relimited}
+use Rattle.commit.specs.Commit.{Stretched, spanShown}
 use Rattle.commit.proofs.Shown.{length-shown, shown-filled}
 use Rattle.commit.proofs.Edits.{row-edited}
-use Rattle.commit.proofs.Limits.{limits-again}
+use Rattle.edits.proofs.Limits.{limits-again}
 
 -- what one row's edit is: depths d before and d′ after, held limits e before and e′ after
 pub record RowStep (r : Bool) (t : List ℕ) (w x n low : ℕ) (edge : Edge) (from to : ℕ) (candidate d d′ : List ℕ) (e e′ : List ℤ) : Type 0 where

@@ -23,7 +23,8 @@ use Rattle.planes.proofs.Read.{low-list, low-seen}
 use Rattle.planes.proofs.Splices.{splice-none}
 use Rattle.planes.proofs.SeenParts.{seen-filled}
 use Rattle.pixel.specs.declared.Edge.{Edge}
-use Rattle.row.specs.Drawing.{firstAt, pixelBelow}
+use Rattle.places.specs.Positions.{firstAt}
+use Rattle.row.specs.Drawing.{pixelBelow}
 use Rattle.row.proofs.Below.{flag-below, below-sample}
 use Rattle.commit.specs.Commit.{partShown, spanShown}
 

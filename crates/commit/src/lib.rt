@@ -1,4 +1,4 @@
-// What SET writes of one view, row by row: the depths, the limits up to the block, and the span of samples, front depths and marks.
+// What SET writes of one row of one view: the edit of its depths and limits, and the span of samples, front depths and marks drawn anew.
 use model::Tear;
 use pixel::Edge;
 ghost use mathlib.Core.Path.{_≡_};
@@ -11,156 +11,14 @@ ghost use Rattle.model.specs.Views.{seen};
 ghost use Rattle.model.specs.Marks.{markBytes};
 ghost use Rattle.model.specs.Planes.{view};
 ghost use Rattle.model.specs.Refusals.{tableOk};
-ghost use Rattle.row.specs.Drawing.{spanTop, Edged, Ready};
-ghost use Rattle.commit.specs.Commit.{RowIn, Rewritten, Relimited, Limited, Changed, Drawable, PartDrawn, Redrawn, RowRedrawn, RowCommitted};
-
-// An edit of a row: the column after its last, as the view reads the row, the low end of its span, and the edge right of its columns, whose
-// limit is the high end.
-pub struct Edit {
-    pub columns: usize,
-    pub low: u32,
-    pub edge: Edge,
-}
+ghost use Rattle.limits.specs.Limits.{Edged};
+ghost use Rattle.row.specs.Drawing.{Ready};
+ghost use Rattle.commit.specs.Commit.{RowIn, Drawable, PartDrawn, Redrawn, RowRedrawn, RowCommitted};
 
 // The entries of a row from `from` up to `to`.
 pub struct Stretch {
     pub from: usize,
     pub to: usize,
-}
-
-// Copies `values` into a part of that length.
-fn write(part: &mut [u8], values: &[u8])
-    requires { ⌜ length (now part) ≡ length (now values) ⌝ }
-    ensures { λ _. ⌜ now (part .exit) ≡ now (values .entry) ⌝ }
-{
-    let mut i = 0;
-    while i < values.len() {
-        part[i] = values[i];
-        i += 1;
-    }
-}
-
-// Writes the candidate into a row of depths from `column` on, and answers the low end of the span. `first` is its first column, as the
-// view reads the row.
-fn edit_row(
-    right: bool,
-    table: &[u16; 256],
-    column: usize,
-    first: usize,
-    candidate: &[u8],
-    depths: &mut [u8],
-) -> u32
-    requires { ⌜ (tableOk (now table) ≡ true) × (length (now depths) ≤ 4096) ⌝ }
-    requires { ⌜ (0 < length (now candidate)) × ((column + length (now candidate) ≤ length (now depths)) × (first + length (now candidate) ≤ length (now depths))) ⌝ }
-    ensures { λ r. ⌜ Rewritten right (now (table .entry)) column first r (now (candidate .entry)) (now (depths .entry)) (now (depths .exit)) ⌝ }
-{
-    let n = candidate.len();
-    let old = row::row_low(right, table, depths, first, n);
-    let end = column + n;
-    write(&mut depths[column..end], candidate);
-    let least = row::least_place(right, table, depths, first, n, old);
-    row::quarter_before(least)
-}
-
-// What is taken for the limit of column `columns`, as a trial takes it: the held one, or the column's own place where that is less, or the
-// row's end.
-fn high_of(right: bool, table: &[u16; 256], depths: &[u8], limits: &[i16], columns: usize) -> u32
-    requires { ⌜ (tableOk (now table) ≡ true) × (length (now depths) ≤ 4096) ⌝ }
-    requires { ⌜ (0 < columns) × (columns ≤ length (now depths)) ⌝ }
-    ensures { λ r. ⌜ r ≡ spanTop (now (table .entry)) (seen right (now (depths .entry))) (seen right (now (limits .entry))) columns ⌝ }
-{
-    let next = row::next_place(right, table, depths, columns - 1);
-    row::limit_under(right, limits, columns, next)
-}
-
-// Writes the limits of the columns below `columns`, from the right. Left of column `first` it stops where the held limit is right already:
-// those before it are too.
-fn write_limits(
-    right: bool,
-    table: &[u16; 256],
-    depths: &[u8],
-    first: usize,
-    columns: usize,
-    high: u32,
-    limits: &mut [i16],
-)
-    requires { ⌜ (tableOk (now table) ≡ true) × (high ≤ 17408) ⌝ }
-    requires { ⌜ (columns ≤ 4096) × (columns ≤ length (now limits)) ⌝ }
-    ensures { λ _. ⌜ Relimited (now (table .entry)) (seen right (now (depths .entry))) first columns high (seen right (now (limits .entry))) (seen right (now (limits .exit))) ⌝ }
-{
-    let mut c = columns;
-    let mut top = high;
-    while 0 < c {
-        c -= 1;
-        let here = row::place_of(right, table, depths, c);
-        top = row::least(here, top);
-        if c < first {
-            if row::held_limit(right, limits, c) == top {
-                return;
-            }
-        }
-        row::put_limit(right, limits, c, signed::limit_of(top));
-    }
-}
-
-// Brings a row's limits up to date, and answers the edge right of the columns below `columns`, with the high end of the span.
-fn update_limits(
-    right: bool,
-    table: &[u16; 256],
-    depths: &[u8],
-    first: usize,
-    columns: usize,
-    limits: &mut [i16],
-) -> Edge
-    requires { ⌜ (tableOk (now table) ≡ true) × (length (now depths) ≤ 4096) ⌝ }
-    requires { ⌜ (length (now limits) ≡ length (now depths)) × ((0 < columns) × (columns ≤ length (now depths))) ⌝ }
-    ensures { λ r. ⌜ Limited (now (table .entry)) (seen right (now (depths .entry))) first columns r (seen right (now (limits .entry))) (seen right (now (limits .exit))) ⌝ }
-{
-    let high = high_of(right, table, depths, limits, columns);
-    let edge = row::edge_of(right, limits, columns, high);
-    write_limits(right, table, depths, first, columns, high, limits);
-    edge
-}
-
-// Writes the candidate into row y of the depths from `column` on, and brings the row's limits up to date.
-fn change_row(
-    right: bool,
-    table: &[u16; 256],
-    w: usize,
-    y: usize,
-    column: usize,
-    candidate: &[u8],
-    depths: &mut [u8],
-    limits: &mut [i16],
-) -> Edit
-    requires { ⌜ (tableOk (now table) ≡ true) × (w ≤ 4096) ⌝ }
-    requires { ⌜ (0 < length (now candidate)) × (column + length (now candidate) ≤ w) ⌝ }
-    requires { ⌜ (y * w + w ≤ length (now depths)) × (y * w + w ≤ length (now limits)) ⌝ }
-    ensures { λ r. ⌜ Changed right (now (table .entry)) w y column (now (candidate .entry)) (now (depths .entry)) (now (depths .exit)) (now (limits .entry)) (now (limits .exit)) (r .columns) (r .low) (r .edge) ⌝ }
-{
-    let base = y * w;
-    let end = base + w;
-    let n = candidate.len();
-    let stop = column + n;
-    let first = row::part_start(right, w, column, stop);
-    let columns = first + n;
-    let low = edit_row(
-        right,
-        table,
-        column,
-        first,
-        candidate,
-        &mut depths[base..end],
-    );
-    let edge = update_limits(
-        right,
-        table,
-        &depths[base..end],
-        first,
-        columns,
-        &mut limits[base..end],
-    );
-    Edit { columns, low, edge }
 }
 
 // Draws the positions from `start` on from the columns below `columns` and the edge right of them into parts of just that stretch, and puts
@@ -323,14 +181,14 @@ fn redraw(
     ensures { λ r. ⌜ Redrawn right (line tear (now (table .entry)) (seen right (now (texture .entry))) (seen right (now (depths .entry)))) (length (now (depths .entry))) y columns low edge (r .from) (r .to)
         (now (samples .entry)) (now (fronts .entry)) (now (marks .entry)) (now (samples .exit)) (now (fronts .exit)) (now (marks .exit)) ⌝ }
 {
-    let start = row::first_at(low);
-    let end = row::first_at(edge.limit);
+    let start = places::first_at(low);
+    let end = places::first_at(edge.limit);
     if end <= start {
         return Stretch { from: 0, to: 0 };
     }
     let w = depths.len();
     let n = end - start;
-    let at = row::part_start(right, w, start, end);
+    let at = places::part_start(right, w, start, end);
     let from = y * w + at;
     let to = from + n;
     draw_stretch(
@@ -420,7 +278,7 @@ pub fn commit_row(
         (view (now (samples .entry)) (now (fronts .entry)) (now (limits .entry)) (now (marks .entry)))
         (view (now (samples .exit)) (now (fronts .exit)) (now (limits .exit)) (now (marks .exit))) (r .from) (r .to) ⌝ }
 {
-    let edit = change_row(right, table, w, y, column, candidate, depths, limits);
+    let edit = edits::change_row(right, table, w, y, column, candidate, depths, limits);
     let columns = edit.columns;
     let low = edit.low;
     let edge = edit.edge;

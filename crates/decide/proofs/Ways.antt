@@ -2,7 +2,6 @@
 --     Passed, passed               what a call that goes on to the trial has shown: all that the trial asks
 --     tried, tried-total           what the trial's two sums tell
 --     sum-change, sum-range        on a sound session their difference is the change, and in range
---     judged-out, judged-in        8 judged by the two sums; then-eight, then-rest, then-none: and then the rest of the list
 --     decided-early, decided-late  the decision, before the trial and after it
 use Prim.Native.Nat.{ℕ, _+_, _*_}
 use mathlib.Core.Path.{_≡_, sym, ap, _∙_}
@@ -20,9 +19,8 @@ use Rattle.model.specs.Views.{isRight}
 use Rattle.model.specs.Fresh.{freshTotal}
 use Rattle.model.specs.Candidates.{filled}
 use Rattle.model.specs.Blocks.{written, changeOf}
-use Rattle.model.specs.Refusals.{numberOf, tableOk, candidateThen, within, inRange, earlyNumber}
+use Rattle.model.specs.Refusals.{numberOf, tableOk, candidateThen, inRange, earlyNumber}
 use Rattle.model.specs.Promises.{Sound}
-use Rattle.model.proofs.Choice.{bool-cases}
 use Rattle.model.proofs.Fresh.{fresh-total, freshTotal-total}
 use Rattle.model.proofs.Written.{written-total}
 use Rattle.model.proofs.Locality.{sized-written}
@@ -33,40 +31,9 @@ use Rattle.signed.proofs.Totals.{change-is, change-range}
 use Rattle.trial.specs.Trial.{Sized, Fits, BlockTrial}
 use Rattle.trial.proofs.Blocks.{block-small}
 use Rattle.trial.proofs.Sound.{aroundOf, ownOf, trial-sound}
-use Rattle.decide.specs.declared.Decision.{Decision}
-use Rattle.decide.specs.Decided.{Tried, Judged, Decided}
-
--- 8 judged by two sums: out of range, and in it
-module _ (total old new most : ℕ) (r : Decision) where
-  pub judged-out : (rest : ℕ) → within (pos total +ℤ subℕ new old) most ≡ false → numberOf (r .refusal) ≡ 8 → r .change ≡ pos 0 → r .total ≡ total → Judged total old new most rest r
-  judged-out rest e n q t =
-      let some : numberOf (r .refusal) ≡ 0 → ⊥ = λ z. omega (arith, sym n ∙ z) in
-      record { number = n ∙ rw e; change = λ z. absurd (some z); moved = λ z. absurd (some z); refused = λ _. q; kept = λ _. t }
-
-  pub judged-in : within (pos total +ℤ subℕ new old) most ≡ true → numberOf (r .refusal) ≡ 0 → r .change ≡ subℕ new old → r .total ≡ natAbs (pos total +ℤ subℕ new old) → Judged total old new most 0 r
-  judged-in e n q t =
-      record { number = n ∙ rw e; change = λ _. q; moved = λ _. t; refused = λ ne. absurd (ne n); kept = λ ne. absurd (ne n) }
-
--- and then the rest: refused with 8, with the rest, or not at all
-module _ {total old new most : ℕ} {r : Decision} (judged : Judged total old new most 0 r) where
-  pub then-eight : (rest : ℕ) → (numberOf (r .refusal) ≡ 0 → ⊥) → Judged total old new most rest r
-  then-eight rest ne =
-      bool-cases (within (pos total +ℤ subℕ new old) most)
-      (λ e. absurd (ne (judged .number ∙ rw e)))
-      (λ e. judged-out total old new most r rest e (judged .number ∙ rw e) (judged .refused ne) (judged .kept ne))
-
-  in-range : numberOf (r .refusal) ≡ 0 → within (pos total +ℤ subℕ new old) most ≡ true
-  in-range z =
-      bool-cases (within (pos total +ℤ subℕ new old) most) (λ e. e)
-      (λ e. let q : 8 ≡ 0 = sym (judged .number ∙ rw e) ∙ z in absurd (omega (arith, q)))
-
-  pub then-rest : (rest : ℕ) (q : Decision) → numberOf (r .refusal) ≡ 0 → (rest ≡ 0 → ⊥) → numberOf (q .refusal) ≡ rest → q .change ≡ pos 0 → q .total ≡ total → Judged total old new most rest q
-  then-rest rest q z ne n k t =
-      let some : numberOf (q .refusal) ≡ 0 → ⊥ = λ y. ne (sym n ∙ y) in
-      record { number = n ∙ rw (in-range z); change = λ y. absurd (some y); moved = λ y. absurd (some y); refused = λ _. k; kept = λ _. t }
-
-  pub then-none : (rest : ℕ) → numberOf (r .refusal) ≡ 0 → rest ≡ 0 → Judged total old new most rest r
-  then-none rest z e = rw e judged
+use Rattle.judge.specs.declared.Decision.{Decision}
+use Rattle.decide.specs.Decided.{Tried, Decided}
+use Rattle.judge.specs.Judged.{Judged}
 
 -- the table and the planes that the trial of a view is lent
 view-table : (s : Settings) → Tables s → (right : Bool) → tableOk (tableOf s right) ≡ true

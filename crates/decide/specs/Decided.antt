@@ -2,7 +2,7 @@
 use Prim.Native.Nat.{ℕ, _+_, _*_, _≤_}
 use mathlib.Core.Path.{_≡_}
 use mathlib.Core.List.{List}
-use lib.IntN.{ℤ, pos, subℕ, _+ℤ_, natAbs}
+use lib.IntN.{ℤ, pos, _+ℤ_, natAbs}
 use Rattle.model.specs.declared.Tear.{Tear}
 use Rattle.model.specs.declared.Settings.{Settings}
 use Rattle.model.specs.declared.Block.{Block}
@@ -13,9 +13,9 @@ use Rattle.model.specs.Planes as planes
 use Rattle.model.specs.Planes.{Pictures, Depths, Held, held, readHeld}
 use Rattle.model.specs.Fresh.{fresh, freshTotal}
 use Rattle.model.specs.Blocks.{written}
-use Rattle.model.specs.Refusals.{numberOf, unless, within}
+use Rattle.model.specs.Refusals.{numberOf}
 use Rattle.model.specs.Promises.{GetPost}
-use Rattle.decide.specs.declared.Decision.{Decision}
+use Rattle.judge.specs.declared.Decision.{Decision}
 
 -- settings, and held planes, from what a call is lent
 abbrev pub settingsOf : ℕ → ℕ → List ℕ → List ℕ → ℕ → ℕ → Tear → ℕ → Settings
@@ -30,14 +30,6 @@ pub record Tried (s : Settings) (p : Pictures) (d : Depths) (h : Held) (v : ℕ)
   pub old-most : old ≤ worst * 16777216
   pub new-most : new ≤ worst * 16777216
   pub change : readHeld h ≡ fresh s p d → freshTotal s p (written s v b c d) + old ≡ freshTotal s p d + new
-
--- 8 judged by two such sums, then the rest of the call's list: the total moved by their difference, or as it was.
-pub record Judged (total old new most rest : ℕ) (r : Decision) : Type 0 where
-  pub number : numberOf (r .refusal) ≡ unless (within (pos total +ℤ subℕ new old) most) 8 rest
-  pub change : numberOf (r .refusal) ≡ 0 → r .change ≡ subℕ new old
-  pub moved : numberOf (r .refusal) ≡ 0 → r .total ≡ natAbs (pos total +ℤ subℕ new old)
-  pub refused : (numberOf (r .refusal) ≡ 0 → ⊥) → r .change ≡ pos 0
-  pub kept : (numberOf (r .refusal) ≡ 0 → ⊥) → r .total ≡ total
 
 -- what GET answers of a decision
 abbrev pub answerOf : Decision → Trial

@@ -1,83 +1,21 @@
-// What GET and SET decide: the first refusal that applies, or the change of the total. GET calls `decide`; SET and TAKE BACK pick the view first and call `judge` or `judge_then`.
+// What GET decides: the first refusal that applies, or the change of the total.
 use model::Block;
 use model::Candidate;
-use model::Refusal;
 use model::Tear;
-use trial::Sums;
+use strips::Sums;
 use validate::Lengths;
 use validate::ViewLengths;
 ghost use mathlib.Core.Path.{_≡_};
 ghost use mathlib.Core.Bool.{false};
-ghost use Prim.Native.Nat.{_*_, _≤_};
 ghost use lib.ListN.{length};
-ghost use lib.IntN.{pos};
 ghost use Rattle.model.specs.declared.Candidate.the-variants.{Full};
 ghost use Rattle.model.specs.Views.{isRight};
-ghost use Rattle.model.specs.Combined.{worst};
 ghost use Rattle.model.specs.Planes.{pictures, depths};
 ghost use Rattle.model.specs.Candidates.{filled};
-ghost use Rattle.model.specs.Refusals.{numberOf, earlyNumber};
+ghost use Rattle.model.specs.Refusals.{earlyNumber};
 ghost use Rattle.fill.specs.Rows.{isLent};
-ghost use Rattle.decide.specs.Decided.{settingsOf, heldOf, Tried, Judged, Decided};
-
-// The first refusal that applies, the change of the total, and the total after the call. A refused call has a change of 0.
-pub struct Decision {
-    pub refusal: Refusal,
-    pub change: i64,
-    pub total: u64,
-}
-
-// A refused call changes nothing.
-fn refused(refusal: Refusal, total: u64) -> Decision
-    ensures { λ r. ⌜ (r .refusal ≡ refusal) × ((r .change ≡ pos 0) × (r .total ≡ total)) ⌝ }
-{
-    Decision {
-        refusal: refusal,
-        change: 0,
-        total: total,
-    }
-}
-
-// The highest total: 1,046,529 for each position.
-pub fn most_total(w: u32, h: u32) -> u64
-    requires { ⌜ (w ≤ 4096) × (h ≤ 4096) ⌝ }
-    ensures { λ r. ⌜ (r ≡ worst * (w * h)) × (r ≤ worst * 16777216) ⌝ }
-{
-    1046529 * ((w as u64) * (h as u64))
-}
-
-// 8 where the total with the change is out of range, else the change.
-pub fn judge(total: u64, old: u64, new: u64, most: u64) -> Decision
-    requires { ⌜ (old ≤ worst * 16777216) × ((new ≤ worst * 16777216) × (most ≤ worst * 16777216)) ⌝ }
-    ensures { λ r. ⌜ Judged total old new most 0 r ⌝ }
-{
-    if !signed::in_range(total, old, new, most) {
-        return refused(Refusal::Total, total);
-    }
-    let change = signed::difference(new, old);
-    let moved = signed::moved_total(total, old, new);
-    Decision {
-        refusal: Refusal::None,
-        change: change,
-        total: moved,
-    }
-}
-
-// 8, else the refusal `late`, else the change.
-pub fn judge_then(total: u64, old: u64, new: u64, most: u64, late: Refusal) -> Decision
-    requires { ⌜ (old ≤ worst * 16777216) × ((new ≤ worst * 16777216) × (most ≤ worst * 16777216)) ⌝ }
-    ensures { λ r. ⌜ Judged total old new most (numberOf late) r ⌝ }
-{
-    let decision = judge(total, old, new, most);
-    let refusal = decision.refusal;
-    if model::number(refusal) != 0 {
-        return decision;
-    }
-    if model::number(late) != 0 {
-        return refused(late, total);
-    }
-    decision
-}
+ghost use Rattle.decide.specs.Decided.{settingsOf, heldOf, Tried, Decided};
+use judge::Decision;
 
 // View 1 is the right view.
 fn is_right(view: u32) -> bool
@@ -429,7 +367,7 @@ pub fn decide<'a>(
     let before = validate::with_block(common, w, h, view, block);
     let first = validate::with_candidate(before, block, candidate, bytes.len());
     if model::number(first) != 0 {
-        return refused(first, total);
+        return judge::refused(first, total);
     }
     let sums = try_candidate(
         w,
@@ -458,6 +396,6 @@ pub fn decide<'a>(
         candidate,
         bytes,
     );
-    let most = most_total(w, h);
-    judge(total, sums.old, sums.new, most)
+    let most = judge::most_total(w, h);
+    judge::judge(total, sums.old, sums.new, most)
 }

@@ -1,7 +1,7 @@
 -- The signed sums of model/specs/Row in naturals.
 --     filtered-parts                        a filter is what its taps add less what they take away, plus 32, divided by 64 and held
 --     eight-first, eight-half, eight-last   so the three filters, over eight samples, are quarterOf, halfOf and quarterOf read backwards
-use Prim.Native.Nat.{ℕ, suc, _+_, _-_, _*_, _/_}
+use Prim.Native.Nat.{ℕ, suc, _+_, _-_, _*_}
 use mathlib.Core.Path.{_≡_, refl, sym, ap, _∙_}
 use mathlib.Core.Logic.{⊎-elim}
 use mathlib.Core.List.{List, [], _∷_}
@@ -13,7 +13,7 @@ use borrow.Author.Tests.{lt-ltb, le-ltb}
 use Rattle.model.specs.Row.{sampleIn, taps1, taps2, taps3, repeated, weighted, clipped, filtered}
 use Rattle.model.proofs.Choice.{lt-or-le}
 use Rattle.model.proofs.Signs.{subℕ-same, subℕ-chain, subℕ-swap}
-use Rattle.filter.specs.Sums.{scaled, quarterOf, halfOf}
+use Rattle.taps.specs.Sums.{scaled, quarterOf, halfOf}
 
 -- what a tap adds for a sample, and what it takes away
 abbrev adds : ℤ → ℕ → ℕ

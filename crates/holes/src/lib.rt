@@ -11,10 +11,10 @@ ghost use Rattle.validate.specs.Numbers.{sides};
 fn refusal(w: u32, h: u32, view: u32, left: &[u8], right: &[u8]) -> Refusal
     ensures { λ r. ⌜ numberOf r ≡ holesNumber (sides w h) view (now (left .entry)) (now (right .entry)) ⌝ }
 {
-    if !validate::side_ok(w) {
+    if !ranges::side_ok(w) {
         return Refusal::Size;
     }
-    if !validate::side_ok(h) {
+    if !ranges::side_ok(h) {
         return Refusal::Size;
     }
     let bytes = (w as usize + 7) / 8 * (h as usize);
@@ -38,9 +38,9 @@ pub fn holes(settings: Settings, view: u32, left: &[u8], right: &[u8]) -> Count
     let w = settings.w as usize;
     let h = settings.h as usize;
     if view == 1 {
-        let count = marks::holes(right, w, h);
+        let count = words::holes(right, w, h);
         return Count::Holes(count);
     }
-    let count = marks::holes(left, w, h);
+    let count = words::holes(left, w, h);
     Count::Holes(count)
 }

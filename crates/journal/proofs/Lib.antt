@@ -1,3 +1,2 @@
--- Why the tests are the journal's, and what is written is its new record.
-pub mod Chains
+-- Why what is written is the new record.
 pub mod Records

@@ -29,7 +29,7 @@ use Rattle.planes.specs.Parts.{splice, Filled}
 use Rattle.planes.proofs.Splices.{length-splice, splice-under, splice-inside, splice-beyond, part-length}
 use Rattle.planes.proofs.Fills.{filled-none, filled-splice, filled-more, filled-all}
 use Rattle.journal.specs.Words.{InPlane}
-use Rattle.journal.proofs.Chains.{product-most}
+use Rattle.chain.proofs.Chains.{product-most}
 
 -- six words set one by one
 pub head-set : (x : List ℕ) (a b c d e f : ℕ) → length x ≡ 6 → set (set (set (set (set (set x 0 a) 1 b) 2 c) 3 d) 4 e) 5 f ≡ a ∷ b ∷ c ∷ d ∷ e ∷ f ∷ []

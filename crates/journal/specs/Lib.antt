@@ -1,2 +1,2 @@
--- Words of a journal.
+-- Words of a journal, as they are written and read.
 pub mod Words

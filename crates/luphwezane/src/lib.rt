@@ -1,10 +1,7 @@
 // The entries as C and Rust call them: a slice is a pointer and a length, settings and blocks are structs by value, and the answer is the number of
 // the refusal, 0 where the call is accepted. What an entry answers besides goes through the last parameters, which a refused call leaves alone.
 use model::Block;
-use model::Count;
-use model::Report;
 use model::Settings;
-use model::Tear;
 use shape::Shape;
 ghost use Rattle.model.specs.Planes as planes;
 ghost use Rattle.model.specs.Promises.{RenderPost, OpenPost, MovePost, GetPost, SetPost, TakeBackPost, CheckPost, HolesPost};
@@ -74,13 +71,7 @@ pub extern "C" fn luph_raw_open(
         combined,
         journal,
     );
-    let refusal = opened.refusal;
-    let number = model::number(refusal);
-    if number == 0 {
-        let next = opened.settings;
-        *total = next.total;
-    }
-    number
+    answers::opened(opened, total)
 }
 
 // MOVE; the new total goes to `total`, and the caller takes the rest of the new settings from `to`.
@@ -128,13 +119,7 @@ pub extern "C" fn luph_raw_move(
         combined,
         journal,
     );
-    let refusal = moved.refusal;
-    let number = model::number(refusal);
-    if number == 0 {
-        let next = moved.settings;
-        *total = next.total;
-    }
-    number
+    answers::opened(moved, total)
 }
 
 // GET; the change of the total goes to `change`. The settings come field by field, the tables lent: GET is the hot call, and a copy of the tables would cost it.
@@ -173,10 +158,7 @@ pub extern "C" fn luph_raw_get<'a>(
         (planes.held (planes.view (now (leftSamples .entry)) (now (leftFronts .entry)) (now (leftLimits .entry)) (now (leftMarks .entry))) (planes.view (now (rightSamples .entry)) (now (rightFronts .entry)) (now (rightLimits .entry)) (now (rightMarks .entry))) (now (combined .entry))) view block (candidateOf shape) (bytesOf shape (now (bytes .entry)))) r (now (change .entry)) (now (change .exit)) ⌝ }
 {
     let n = shape::lent(shape.kind, bytes.len());
-    let tear = Tear {
-        gap: widestGap,
-        distance: tornDistance,
-    };
+    let tear = shape::tear_of(widestGap, tornDistance);
     let tried = decide::decide(
         w,
         h,
@@ -205,13 +187,7 @@ pub extern "C" fn luph_raw_get<'a>(
         shape::candidate_of(shape),
         &bytes[..n],
     );
-    let refusal = tried.refusal;
-    let number = model::number(refusal);
-    if number == 0 {
-        let found = tried.change;
-        *change = found;
-    }
-    number
+    answers::tried(tried, change)
 }
 
 // SET; the change of the total goes to `change` and the new total to `total`.
@@ -267,15 +243,7 @@ pub extern "C" fn luph_raw_set(
         shape::candidate_of(shape),
         &bytes[..n],
     );
-    let refusal = edited.refusal;
-    let number = model::number(refusal);
-    if number == 0 {
-        let next = edited.settings;
-        let found = edited.change;
-        *change = found;
-        *total = next.total;
-    }
-    number
+    answers::edited(edited, change, total)
 }
 
 // TAKE BACK; the change of the total goes to `change` and the new total to `total`.
@@ -322,15 +290,7 @@ pub extern "C" fn luph_raw_take_back(
         combined,
         journal,
     );
-    let refusal = edited.refusal;
-    let number = model::number(refusal);
-    if number == 0 {
-        let next = edited.settings;
-        let found = edited.change;
-        *change = found;
-        *total = next.total;
-    }
-    number
+    answers::edited(edited, change, total)
 }
 
 // CHECK; what it reports goes to `kind` (0 sound, 1 a difference, 2 the total) and, for a difference, `row` and `column`.
@@ -375,23 +335,7 @@ pub extern "C" fn luph_raw_check(
         rightMarks,
         combined,
     );
-    match report {
-        Report::Refused(refusal) => model::number(refusal),
-        Report::Sound => {
-            *kind = 0;
-            0
-        }
-        Report::Difference { row: y, column: x } => {
-            *kind = 1;
-            *row = y;
-            *column = x;
-            0
-        }
-        Report::Total => {
-            *kind = 2;
-            0
-        }
-    }
+    answers::reported(report, kind, row, column)
 }
 
 // HOLES; the count goes to `count`.
@@ -406,11 +350,5 @@ pub extern "C" fn luph_raw_holes(
     ensures { λ r. ⌜ CountOut (HolesPost settings view (now (left .entry)) (now (right .entry))) r (now (count .entry)) (now (count .exit)) ⌝ }
 {
     let counted = holes::holes(settings, view, left, right);
-    match counted {
-        Count::Refused(refusal) => model::number(refusal),
-        Count::Holes(n) => {
-            *count = n;
-            0
-        }
-    }
+    answers::counted(counted, count)
 }

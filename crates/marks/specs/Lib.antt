@@ -1,3 +1,2 @@
--- Packed marks as they are written, a held row as it is read, and mark bytes joined to a word.
+-- Packed marks as they are written, and a held row as it is read.
 pub mod Puts
-pub mod Words

@@ -21,7 +21,7 @@ use Rattle.draw.specs.Drawn.{PlanesOf}
 use Rattle.draw.specs.Combination.{heldRows, PictureCombined}
 use Rattle.draw.proofs.Planes.{view-whole}
 use Rattle.draw.proofs.Pictures.{picture-whole, total-whole}
-use Rattle.open.specs.Filled.{Filled}
+use Rattle.fresh.specs.Filled.{Filled}
 
 -- planes of these sizes keep them
 pub planes-left : (s : Settings) (p : Pictures) (d : Depths) (g : Held) → Common s p d g → PlanesOf (s .w) (s .h) (p .left) (d .left) (g .left)

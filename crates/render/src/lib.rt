@@ -11,70 +11,8 @@ ghost use Rattle.model.specs.Views.{viewRow};
 ghost use Rattle.model.specs.Marks.{markBytes};
 ghost use Rattle.model.specs.Planes.{strip};
 ghost use Rattle.model.specs.Fresh.{stripOf};
-ghost use Rattle.model.specs.Refusals.{numberOf};
 ghost use Rattle.model.specs.Promises.{RenderPost};
 ghost use Rattle.row.specs.Drawing.{Ready};
-ghost use Rattle.render.specs.Numbers.{stripFits, stripNumber};
-
-// Every plane of a row of w positions has its exact length.
-fn strip_sized(
-    w: usize,
-    texture: usize,
-    depths: usize,
-    samples: usize,
-    marks: usize,
-    fronts: usize,
-) -> bool
-    requires { ⌜ w ≤ 4096 ⌝ }
-    ensures { λ r. ⌜ r ≡ stripFits w texture depths samples marks fronts ⌝ }
-{
-    if texture != w {
-        return false;
-    }
-    if depths != w {
-        return false;
-    }
-    if samples != w {
-        return false;
-    }
-    if marks != (w + 7) / 8 {
-        return false;
-    }
-    fronts == w
-}
-
-// 1, 2, 3, 20 or 6, the first that applies; of a plane it is told the length.
-fn strip_refusal(
-    w: u32,
-    left: &[u16; 256],
-    right: &[u16; 256],
-    tear: Tear,
-    view: u32,
-    texture: usize,
-    depths: usize,
-    samples: usize,
-    marks: usize,
-    fronts: usize,
-) -> Refusal
-    ensures { λ r. ⌜ numberOf r ≡ stripNumber w (now (left .entry)) (now (right .entry)) tear view texture depths samples marks fronts ⌝ }
-{
-    if !validate::side_ok(w) {
-        return Refusal::Size;
-    }
-    if !strip_sized(w as usize, texture, depths, samples, marks, fronts) {
-        return Refusal::Plane;
-    }
-    if !validate::tables_ok(left, right) {
-        return Refusal::Table;
-    }
-    if !validate::tear_ok(tear) {
-        return Refusal::Gap;
-    }
-    if 1 < view {
-        return Refusal::View;
-    }
-    Refusal::None
-}
 
 // Draws the row into samples, packed marks and front depths; `flags` is room for its marks.
 fn draw_packed(
@@ -155,7 +93,7 @@ pub fn render(
     let left = settings.left;
     let right = settings.right;
     let tear = settings.tear;
-    let refusal = strip_refusal(
+    let refusal = lists::strip_refusal(
         settings.w,
         &left,
         &right,

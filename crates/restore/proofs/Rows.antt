@@ -30,8 +30,8 @@ use Rattle.trial.proofs.Blocks.{below}
 use Rattle.commit.proofs.Planes.{bounded-then}
 use Rattle.combine.specs.Combine.{BlockIn, BlockSet}
 use Rattle.combine.proofs.Rows.{Through}
-use Rattle.restore.specs.Saved.{Narrowed}
-use Rattle.restore.proofs.Parts.{part-rows}
+use Rattle.records.specs.Rows.{Narrowed}
+use Rattle.records.proofs.Narrowing.{part-rows}
 
 module _ {tear : Tear} {right : Bool} {t : List ℕ} {share tolerance w h : ℕ} {b : Block} {j : ℕ} {texture candidate s₂ f₂ m₂ d₀ d d′ : List ℕ} {v₀ v v′ : View} {c₀ c c′ : List ℕ} (through : Through tear right t share tolerance w h b j texture candidate s₂ f₂ m₂ d₀ d v₀ v c₀ c) (block : BlockIn w h b candidate) (start : length d₀ ≡ w * h) (x : List ℕ) (n : ℕ) (more : j + n ≤ b .height) (size : length x ≡ b .width * n) (rows : (k : ℕ) → k < n → rowOf x (b .width) k ≡ rowOf candidate (b .width) (j + k)) (set : BlockSet tear right t share tolerance w h (below b j n) texture x s₂ f₂ m₂ d d′ v v′ c c′) where
   within : (plane : List ℕ) → length plane ≡ w * h → (k : ℕ) → k < h → k * w + w ≤ length plane

@@ -1,10 +1,10 @@
 // Depths that a record of the journal saved, put back into their block: its words are narrowed in a room, as many rows as fit, and these are tried, and set, as a
 // full block of their own.
-use decide::Decision;
+use judge::Decision;
 use model::Block;
 use model::Candidate;
 use model::Tear;
-use trial::Sums;
+use strips::Sums;
 ghost use mathlib.Core.Path.{_≡_};
 ghost use mathlib.Core.Bool.{true};
 ghost use Prim.Native.Nat.{_+_, _*_, _<_, _≤_};
@@ -12,35 +12,13 @@ ghost use lib.ListN.{length};
 ghost use Rattle.model.specs.Planes as planes;
 ghost use Rattle.model.specs.Refusals.{tableOk, upTo};
 ghost use Rattle.planes.specs.Parts.{blockOf};
-ghost use Rattle.trial.specs.Trial.{around, own, Sized, Fits, BlockTrial};
+ghost use Rattle.strips.specs.Strips.{around, own};
+ghost use Rattle.trial.specs.Trial.{Sized, Fits, BlockTrial};
 ghost use Rattle.commit.specs.Commit as commit;
 ghost use Rattle.combine.specs.Combine.{OtherSized, BlockSet};
 ghost use Rattle.decide.specs.Decided.{settingsOf, heldOf};
-ghost use Rattle.set.specs.Settled.{OwnSettled, Settled};
-ghost use Rattle.restore.specs.Saved.{SavedIn, Narrowed};
-
-// The rows that are taken next: as many as the room holds, and no more than are left.
-fn rows_next(room: usize, width: usize, left: usize) -> usize
-    requires { ⌜ (0 < width) × ((width ≤ room) × (0 < left)) ⌝ }
-    ensures { λ r. ⌜ (0 < r) × ((r * width ≤ room) × (r ≤ left)) ⌝ }
-{
-    let most = room / width;
-    if most < left { most } else { left }
-}
-
-// Narrows the words of the next rows at the room's front, and answers how many rows; `done` rows are passed and `left` are left.
-fn narrow_rows(words: &[u32], width: usize, done: usize, left: usize, room: &mut [u8]) -> usize
-    requires { ⌜ (0 < width) × ((0 < left) × ((done + left ≤ 4096) × (length (now words) ≡ width * (done + left)))) ⌝ }
-    requires { ⌜ (upTo 255 (now words) ≡ true) × ((width ≤ 4096) × (length (now room) ≡ 4096)) ⌝ }
-    ensures { λ r. ⌜ Narrowed (now (words .entry)) width done left (now (room .exit)) r ⌝ }
-{
-    let n = rows_next(room.len(), width, left);
-    let end = n * width;
-    let from = done * width;
-    let to = from + end;
-    journal::narrow(&words[from..to], &mut room[..end]);
-    n
-}
+ghost use Rattle.settled.specs.Settled.{OwnSettled, Settled};
+ghost use Rattle.restore.specs.Saved.{SavedIn};
 
 // The two sums of the trial of a block with the depths that were saved.
 fn trial_saved(
@@ -76,7 +54,7 @@ fn trial_saved(
     let mut new = 0u64;
     let mut done = 0;
     while done < height {
-        let n = narrow_rows(words, width, done, height - done, room);
+        let n = records::narrow_rows(words, width, done, height - done, room);
         let end = n * width;
         let part = trial::trial_block(
             tear,
@@ -145,9 +123,9 @@ fn set_saved(
 {
     let mut done = 0;
     while done < height {
-        let n = narrow_rows(words, width, done, height - done, room);
+        let n = records::narrow_rows(words, width, done, height - done, room);
         let end = n * width;
-        combine::set_block(
+        blocks::set_block(
             tear,
             right,
             table,
@@ -242,8 +220,8 @@ fn restore(
         combined,
         reference,
     );
-    let most = decide::most_total(w, h);
-    let decision = decide::judge(total, sums.old, sums.new, most);
+    let most = judge::most_total(w, h);
+    let decision = judge::judge(total, sums.old, sums.new, most);
     let refusal = decision.refusal;
     if model::number(refusal) != 0 {
         return decision;

@@ -1,10 +1,9 @@
 -- A row drawn from the columns below n alone, where an edge is taken for the near edge right of them, its limit `high` for the limit of n.
---     below-end, below-step, below-most, below-below     these limits from the right
 --     front-end, front-step, front-below                 the greatest columns placed at them
---     below-limit, front-placed, below-pixel             with the true limit and edge of n they are the row's limits, columns and pixels
+--     front-placed, below-pixel                          with the true limit and edge of n they are the row's columns and pixels
 --     flag-below                                         its marks are 0 or 1
 --     first-within                                       positions before x, for x in a row
-use Prim.Native.Nat.{ℕ, zero, suc, _+_, _-_, _<_, _≤_, min}
+use Prim.Native.Nat.{ℕ, zero, suc, _+_, _-_, _<_, _≤_}
 use mathlib.Core.Path.{_≡_, sym, ap, subst, _∙_}
 use mathlib.Core.Bool.{cond, _&&_}
 use mathlib.Core.Logic.{⊎-elim}
@@ -16,46 +15,17 @@ use lib.ListN.{length}
 use borrow.Author.Tests.{leb-true, lt-ltb, le-ltb}
 use Rattle.model.specs.Row.{Line, width, placeIn, quarter, least, limit, owner, greatest, columnPixel, ownedPixel, placedAt, nearEdge, shownPixel, pixelAt}
 use Rattle.model.proofs.Choice.{bool-cases, lt-or-le, and-off}
-use Rattle.model.proofs.Owners.{Owns, least-most, least-join, limit-end, limit-step, limit-most, limit-above, owner-owns, owner-below, owns-stretch, place-zero}
+use Rattle.model.proofs.Owners.{Owns, least-join, limit-end, limit-step, limit-most, limit-above, owner-owns, owner-below, owns-stretch, place-zero}
 use Rattle.model.proofs.Edges.{placed-is}
 use Rattle.model.proofs.Fresh.{flag-owned}
 use Rattle.model.proofs.Totals.{sampleIn-most, owned-most}
 use Rattle.pixel.specs.declared.Edge.{Edge}
 use Rattle.pixel.specs.Pairs.{nextPlace, atEdge, edgedPixel}
 use Rattle.pixel.proofs.Pairs.{next-inner, next-last, next-most}
-use Rattle.row.specs.Drawing.{firstAt, front, frontBelow, pixelBelow, limitBelow}
-
-pub below-end : (f : ℕ → ℕ) (high n : ℕ) → limitBelow f high n n ≡ high
-unfolding limitBelow least
-below-end f high n = let e : n - n ≡ 0 = omega arith in rw e
-
-pub below-step : (f : ℕ → ℕ) (high n c : ℕ) → c < n → limitBelow f high n c ≡ min (f c) (limitBelow f high n (c + 1))
-unfolding limitBelow least
-below-step f high n c h =
-    let e : n - c ≡ suc (n - suc c) = omega arith in
-    rw (e, add-one)
-
-pub below-most : (f : ℕ → ℕ) (high n c : ℕ) → limitBelow f high n c ≤ high
-unfolding limitBelow
-below-most f high n c = least-most f high c (n - c)
-
--- taken in two parts
-pub below-below : (f : ℕ → ℕ) (high n m c : ℕ) → c ≤ m → m ≤ n → limitBelow f (limitBelow f high n m) m c ≡ limitBelow f high n c
-unfolding limitBelow
-below-below f high n m c h k =
-    let e : c + (m - c) ≡ m = omega arith in
-    let g : m - c + (n - m) ≡ n - c = omega arith in
-    let j = least-join f high c (m - c) (n - m) in
-    rw (e, g) at j
-
--- with the true limit of n they are the limits
-pub below-limit : (f : ℕ → ℕ) (w n c : ℕ) → c ≤ n → n ≤ w → limitBelow f (limit f w n) n c ≡ limit f w c
-unfolding limitBelow limit
-below-limit f w n c h k =
-    let e : c + (n - c) ≡ n = omega arith in
-    let g : n - c + (w - n) ≡ w - c = omega arith in
-    let j = least-join f (quarter w) c (n - c) (w - n) in
-    rw (e, g) at j
+use Rattle.places.specs.Positions.{firstAt}
+use Rattle.row.specs.Drawing.{front, frontBelow, pixelBelow}
+use Rattle.limits.specs.Limits.{limitBelow}
+use Rattle.limits.proofs.Below.{below-limit}
 
 -- ---- near edges
 

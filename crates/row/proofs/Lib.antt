@@ -1,7 +1,5 @@
 -- Why it holds: the laws of a row's drawing, by topic.
 pub mod Below
-pub mod Lows
 pub mod Columns
 pub mod Pass
 pub mod Wholes
-pub mod Limits

@@ -1,28 +1,26 @@
--- The pass from the right: each position's owner, and the limits.
+-- The pass from the right: each position's owner.
 --     ahead-less, ahead-within, ahead-edge, step-column, step-ahead      the pair from which the rest is drawn
 --     passed-none, passed-less, passed-join, passed-pixel, step-passed    the columns that were passed
 --     owner-passed                             the first column that is placed at most at a position owns it
---     limits-next                              the limits, in a pass of their own
-use Prim.Native.Nat.{ℕ, _+_, _-_, _*_, _<_, _≤_, min}
+use Prim.Native.Nat.{ℕ, _+_, _-_, _*_, _<_, _≤_}
 use mathlib.Core.Path.{_≡_, sym, ap, _∙_}
 use mathlib.Core.Bool.{Bool}
 use mathlib.Core.Logic.{⊎-elim}
-use mathlib.Core.List.{List}
 use native.Mathlib.Omega.{arith}
-use lib.ListN.{length, set}
-use lib.IntN.{ℤ, pos}
+use lib.ListN.{length}
 use borrow.Author.Tests.{lt-ltb, le-ltb}
-use Rattle.model.specs.Row.{Line, width, quarter, placeIn, owner, signed}
+use Rattle.model.specs.Row.{Line, width, quarter, placeIn, owner}
 use Rattle.model.proofs.Choice.{lt-or-le}
 use Rattle.model.proofs.Owners.{Owns, owner-owns, owner-is, place-zero}
-use Rattle.planes.specs.Parts.{Filled}
-use Rattle.planes.proofs.Fills.{filled-back}
 use Rattle.pixel.specs.declared.Edge.{Edge}
 use Rattle.pixel.specs.declared.Pair.{Pair}
 use Rattle.pixel.specs.Pairs.{Among, Stands, edgeRight, edgePast, edgedPixel}
 use Rattle.pixel.proofs.Pairs.{next-most, past-cases, pair-pixel}
-use Rattle.row.specs.Drawing.{firstAt, shownOf, pixelBelow, limitBelow, frontBelow, Ahead, Passed}
-use Rattle.row.proofs.Below.{below-end, below-step, below-below, front-end, front-step, front-below}
+use Rattle.places.specs.Positions.{firstAt}
+use Rattle.row.specs.Drawing.{shownOf, pixelBelow, frontBelow, Ahead, Passed}
+use Rattle.limits.specs.Limits.{limitBelow}
+use Rattle.limits.proofs.Below.{below-end, below-step, below-below}
+use Rattle.row.proofs.Below.{front-end, front-step, front-below}
 
 -- the quarters of the last position below `stop`
 abbrev pub lastBelow : ℕ → ℕ
@@ -164,24 +162,3 @@ module _ {right : Bool} {l : Line} {stop : ℕ} {q₀ q : Pair} (h : Passed l q�
       } in
       let same : owner (placeIn l) (lastBelow stop) (q₀ .column + 1) ≡ q .column = owner-is (placeIn l) (lastBelow stop) (q₀ .column + 1) (q .column) (omega (arith, place-zero (l .table) (l .depths) 0)) o in
       rw (pair-pixel l q (lastBelow stop) wide (a .stands), a .stands .next, x, same, ← h .limit, ← h .front)
-
--- ---- limits
-
--- What the pass over the limits has written when it has come to column c of `columns`.
-pub record LimitsFrom (f : ℕ → ℕ) (columns high top c : ℕ) (e₀ e : List ℤ) : Type 0 where
-  pub column : c ≤ columns
-  pub limits : top ≡ limitBelow f high columns c
-  pub filled : Filled (pos 0) (λ k. signed (limitBelow f high columns k)) c columns e₀ e
-
-pub limits-next : {f : ℕ → ℕ} {columns high top c r : ℕ} {e₀ e e′ : List ℤ} (v : ℤ) → LimitsFrom f columns high top c e₀ e → 0 < c → columns ≤ length e → r ≡ min (f (c - 1)) top → v ≡ signed r → e′ ≡ set e (c - 1) v → LimitsFrom f columns high r (c - 1) e₀ e′
-limits-next {f} {columns} {high} {top} {c} {r} {e₀} {e} {e′} v h more n er ev ee =
-    let z : c - 1 + 1 ≡ c = omega arith in
-    let step = below-step f high columns (c - 1) (omega (arith, h .column)) in
-    let step′ : limitBelow f high columns (c - 1) ≡ min (f (c - 1)) (limitBelow f high columns c) = rw z at step in
-    let er′ : r ≡ limitBelow f high columns (c - 1) = er ∙ ap (min (f (c - 1))) (h .limits) ∙ sym step′ in
-    let old : Filled (pos 0) (λ k. signed (limitBelow f high columns k)) (c - 1 + 1) columns e₀ e = rw z (h .filled) in
-    record {
-      column = omega (arith, h .column);
-      limits = er′;
-      filled = rw ee (filled-back v old (omega (arith, h .column)) (omega (arith, h .column)) (ev ∙ ap signed er′));
-    }

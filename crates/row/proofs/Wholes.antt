@@ -17,8 +17,11 @@ use Rattle.planes.specs.Parts.{Filled, Painted}
 use Rattle.planes.proofs.Fills.{filled-change}
 use Rattle.planes.proofs.SeenParts.{seen-all}
 use Rattle.pixel.proofs.Pairs.{next-last}
-use Rattle.row.specs.Drawing.{firstAt, pixelBelow, limitBelow, endEdge, Edged, Ready, Shows}
-use Rattle.row.proofs.Below.{below-limit, below-pixel}
+use Rattle.places.specs.Positions.{firstAt}
+use Rattle.row.specs.Drawing.{pixelBelow, endEdge, Ready, Shows}
+use Rattle.limits.specs.Limits.{limitBelow, Edged}
+use Rattle.limits.proofs.Below.{below-limit}
+use Rattle.row.proofs.Below.{below-pixel}
 
 -- the row as the view reads it can be drawn where the row can
 pub ready-seen : (tear : Tear) (r : Bool) (t s d : List ℕ) → Ready (line tear t s d) → Ready (line tear t (seen r s) (seen r d))

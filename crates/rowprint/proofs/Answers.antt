@@ -16,9 +16,9 @@ use Rattle.model.specs.Views.{viewRow}
 use Rattle.rowtext.specs.Format.{rowText}
 use Rattle.rowtext.specs.Promise.{IsRow, IsBad}
 use Rattle.rowtext.proofs.Rows.{text-unique}
-use Rattle.rowprint.specs.Printed.{printerTear, printerTable, drawnRow, headerOf, printed, badInput, Answers}
-use Rattle.rowprint.specs.Steps.{Put, Shows, shownLine}
-use Rattle.rowprint.proofs.Puts.{put-as}
+use Rattle.rowlines.specs.Printed.{printerTear, printerTable, drawnRow, headerOf, printed, badInput, Answers}
+use Rattle.rowlines.specs.Steps.{Put, Shows, shownLine}
+use Rattle.rowlines.proofs.Puts.{put-as}
 use Rattle.rowprint.proofs.Shown.{same-lines}
 
 pub printed-drawing : (w : ℕ) (texture depths samples marks fronts : List ℕ) {o q : List ℕ} {n : ℕ} → Shows (viewRow false (line printerTear printerTable texture depths)) w samples marks fronts → Put 2048 o 0 (headerOf w ++ rows (shownLine samples marks fronts) w) q n → Put 2048 o 0 (printed (rowText w texture depths)) q n

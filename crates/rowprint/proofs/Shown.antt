@@ -24,8 +24,8 @@ use Rattle.model.proofs.Packing.{mark-packRow, length-packRow}
 use Rattle.model.proofs.Views.{length-view-samples, length-view-fronts}
 use Rattle.model.proofs.Fresh.{flags-view}
 use Rattle.model.proofs.Refusals.{side-yes, tear-yes, tables-yes}
-use Rattle.rowprint.specs.Printed.{printerTear, printerTable, positionLine}
-use Rattle.rowprint.specs.Steps.{PrinterSettings, Shows, shownLine}
+use Rattle.rowlines.specs.Printed.{printerTear, printerTable, positionLine}
+use Rattle.rowlines.specs.Steps.{PrinterSettings, Shows, shownLine}
 use Rattle.rowprint.proofs.Tables.{table-most}
 
 -- the planes that RENDER is lent have their lengths

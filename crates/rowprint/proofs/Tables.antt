@@ -9,7 +9,7 @@ use lib.Seq.{getD-set-same, getD-set-other, ext-getD}
 use Rattle.model.specs.Lists.{listOf}
 use Rattle.model.proofs.Choice.{lt-or-le}
 use Rattle.model.proofs.Lists.{length-listOf, getD-listOf}
-use Rattle.rowprint.specs.Printed.{printerTable}
+use Rattle.rowlines.specs.Printed.{printerTable}
 
 pub table-next : (l : List ℕ) (d : ℕ) → d < length l → ((i : ℕ) → i < d → getD l i 0 ≡ i) → (i : ℕ) → i < d + 1 → getD (set l d d) i 0 ≡ i
 table-next l d h z i k =

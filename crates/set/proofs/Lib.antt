@@ -1,2 +1,2 @@
 -- Why SET keeps its promise.
-pub mod Settling
+pub mod Setting

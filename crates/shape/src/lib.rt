@@ -1,7 +1,8 @@
-// A candidate as C and Rust pass it: a shape by value, and bytes beside it.
+// A candidate as C and Rust pass it: a shape by value, and bytes beside it; and the two numbers of the settings that say where rows tear.
 use model::Candidate;
 use model::Point;
 use model::Split;
+use model::Tear;
 ghost use mathlib.Core.Path.{_≡_};
 ghost use Prim.Native.Nat.{_≤_};
 ghost use Rattle.shape.specs.Shapes.{candidateOf, lentOf};
@@ -56,4 +57,14 @@ pub fn lent(kind: u32, n: usize) -> usize
     ensures { λ r. ⌜ (r ≡ lentOf kind n) × (r ≤ n) ⌝ }
 {
     if kind <= 3 { n } else { 0 }
+}
+
+// The widest gap and the torn distance, which GET is passed one by one.
+pub fn tear_of(widestGap: u8, tornDistance: u8) -> Tear
+    ensures { λ r. ⌜ r ≡ record { gap = widestGap; distance = tornDistance } ⌝ }
+{
+    Tear {
+        gap: widestGap,
+        distance: tornDistance,
+    }
 }

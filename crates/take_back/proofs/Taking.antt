@@ -25,13 +25,13 @@ use Rattle.model.proofs.Journals as journals
 use Rattle.model.proofs.Journals.{journal-words, journal-newest, taking-sides}
 use Rattle.validate.specs.Numbers.{commonNumber, sides}
 use Rattle.validate.proofs.Numbers.{lengthsOf, common-number}
-use Rattle.decide.specs.declared.Decision.{Decision}
-use Rattle.set.specs.Settled.{Settled}
-use Rattle.set.proofs.Settling.{edit-refused, edit-settled}
+use Rattle.judge.specs.declared.Decision.{Decision}
+use Rattle.settled.specs.Settled.{Settled}
+use Rattle.settled.proofs.Settling.{edit-refused, edit-settled}
 use Rattle.restore.specs.Saved.{SavedIn}
 use Rattle.restore.proofs.Parts.{saved-passed}
-use Rattle.take_back.specs.declared.Record.{Record}
-use Rattle.take_back.specs.Taken.{NewestRecord, Struck}
+use Rattle.records.specs.declared.Record.{Record}
+use Rattle.records.specs.Taken.{NewestRecord, Struck}
 
 -- the newest record of a journal that TAKE BACK does not refuse
 module _ (s : Settings) (j : List ℕ) (e : takingThen s j 0 ≡ 0) where

@@ -24,8 +24,9 @@ use Rattle.model.proofs.Views.{length-seen}
 use Rattle.planes.specs.Parts.{blockOf}
 use Rattle.fill.specs.Rows.{isLent, RowsMade}
 use Rattle.fill.proofs.Rooms.{made-rows, front-back}
-use Rattle.trial.specs.Trial.{Own, Around, covered, RowTrial, ownRow, aroundRow, firstOf, totalBefore, totalAfter, coveredIn, BlockHeld, BlockTrial, OwnRowIn, AroundRowIn, Sized, Fits}
-use Rattle.trial.proofs.Positions.{stop-within}
+use Rattle.strips.specs.Strips.{Own, Around, covered, RowTrial}
+use Rattle.trial.specs.Trial.{ownRow, aroundRow, firstOf, totalBefore, totalAfter, coveredIn, BlockHeld, BlockTrial, OwnRowIn, AroundRowIn, Sized, Fits}
+use Rattle.strips.proofs.Positions.{stop-within}
 
 module _ (w : ℕ) (o : Around) (v : Own) (b : Block) (c : List ℕ) where
   pub block-none : BlockTrial w o v b c 0 0 0

@@ -35,9 +35,10 @@ use Rattle.planes.specs.Parts.{splice}
 use Rattle.marks.specs.Puts.{heldPixel}
 use Rattle.marks.proofs.Held.{entry-read, held-fresh}
 use Rattle.sums.specs.Sides.{paired}
-use Rattle.trial.specs.Trial as specs
-use Rattle.trial.specs.Trial.{Around, around, own, aroundRow, ownRow, entryPixel, combinedWith, errorWith, rowTotal, RowHeld, totalBefore, totalAfter, BlockTrial}
-use Rattle.trial.proofs.Candidates.{seen-candidate}
+use Rattle.strips.specs.Strips as specs
+use Rattle.strips.specs.Strips.{Around, around, own, entryPixel, combinedWith, errorWith, rowTotal, RowHeld}
+use Rattle.trial.specs.Trial.{aroundRow, ownRow, totalBefore, totalAfter, BlockTrial}
+use Rattle.strips.proofs.Candidates.{seen-candidate}
 
 -- ---- sums
 

@@ -1,4 +1,3 @@
 -- Why the tests are those of the model, and what they show.
 pub mod Facts
-pub mod Lines
 pub mod Numbers

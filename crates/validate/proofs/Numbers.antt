@@ -23,7 +23,8 @@ use Rattle.model.proofs.Refusals.{unless-true, side-facts, Before, none-before,
 use Rattle.validate.specs.declared.ViewLengths.{ViewLengths}
 use Rattle.validate.specs.declared.Lengths.{Lengths}
 use Rattle.validate.specs.Numbers.{planesFit, commonNumber, sides, ownNumber}
-use Rattle.validate.proofs.Facts.{same-test, planes-yes, planes-facts}
+use Rattle.model.proofs.Choice.{same-test}
+use Rattle.validate.proofs.Facts.{planes-yes, planes-facts}
 
 -- the lengths of the planes
 abbrev pub viewLengths : Pictures → Depths → Held → Bool → ViewLengths

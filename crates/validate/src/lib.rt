@@ -1,16 +1,13 @@
-// The tests that turn a call down, in the order of its list. Of a plane they look at its length alone; the entries of a picture are a test apart, which only OPEN and MOVE make.
+// The tests that several calls have in common, in the order of their lists. Of a plane they look at its length alone; the entries of a picture are a test apart, which only OPEN and MOVE make.
 use model::Block;
 use model::Candidate;
-use model::Point;
 use model::Refusal;
-use model::Split;
 use model::Tear;
 ghost use mathlib.Core.Path.{_≡_};
-ghost use mathlib.Core.Bool.{cond, _&&_, _||_};
+ghost use mathlib.Core.Bool.{cond};
 ghost use Prim.Native.Nat.{_+_, _<_, _≤_};
 ghost use lib.Dec.{eqb};
-ghost use Rattle.model.specs.Candidates.{onBorder, sideShared, lineOk};
-ghost use Rattle.model.specs.Refusals.{numberOf, sideOk, tableOk, tearOk, pictureOk, blockOk, candidateThen};
+ghost use Rattle.model.specs.Refusals.{numberOf, blockOk, candidateThen};
 ghost use Rattle.validate.specs.Numbers.{viewFits, planesFit, commonNumber, sides, ownNumber};
 
 // The lengths of the planes of one view.
@@ -29,58 +26,6 @@ pub struct Lengths {
     pub right: ViewLengths,
     pub reference: usize,
     pub combined: usize,
-}
-
-// A width or height of 1 to 4,096.
-pub fn side_ok(n: u32) -> bool
-    ensures { λ r. ⌜ r ≡ sideOk n ⌝ }
-{
-    if n < 1 {
-        return false;
-    }
-    n <= 4096
-}
-
-// No entry of either table is above 1,023, which is ten bits: one loop joins the bits of all entries and never stops early, which is the
-// quicker way.
-pub fn tables_ok(left: &[u16; 256], right: &[u16; 256]) -> bool
-    ensures { λ r. ⌜ r ≡ (tableOk (now (left .entry)) && tableOk (now (right .entry))) ⌝ }
-{
-    let lefts = &left[..];
-    let rights = &right[..];
-    let mut most: u16 = 0;
-    let mut i: usize = 0;
-    while i < 256 {
-        most = most | (lefts[i] | rights[i]);
-        i += 1;
-    }
-    most <= 1023
-}
-
-// No entry of a picture is above 1,023, which is ten bits: the bits of all entries are joined, as for the tables.
-pub fn picture_ok(picture: &[u16]) -> bool
-    ensures { λ r. ⌜ r ≡ pictureOk (now (picture .entry)) ⌝ }
-{
-    let mut joined = 0u16;
-    let mut i = 0;
-    while i < picture.len() {
-        joined = joined | picture[i];
-        i += 1;
-    }
-    joined <= 1023
-}
-
-// A widest gap of 4 to 64, and a distance of at most 3.
-pub fn tear_ok(tear: Tear) -> bool
-    ensures { λ r. ⌜ r ≡ tearOk tear ⌝ }
-{
-    if tear.gap < 4 {
-        return false;
-    }
-    if 64 < tear.gap {
-        return false;
-    }
-    tear.distance <= 3
 }
 
 // Every plane of a view has its exact length: n entries, and m bytes of marks.
@@ -138,22 +83,22 @@ pub fn common(
 ) -> Refusal
     ensures { λ r. ⌜ numberOf r ≡ commonNumber w h (now (left .entry)) (now (right .entry)) share tear lengths 0 ⌝ }
 {
-    if !side_ok(w) {
+    if !ranges::side_ok(w) {
         return Refusal::Size;
     }
-    if !side_ok(h) {
+    if !ranges::side_ok(h) {
         return Refusal::Size;
     }
     if !planes_sized(w, h, lengths) {
         return Refusal::Plane;
     }
-    if !tables_ok(left, right) {
+    if !ranges::tables_ok(left, right) {
         return Refusal::Table;
     }
     if 64 < share {
         return Refusal::Share;
     }
-    if !tear_ok(tear) {
+    if !ranges::tear_ok(tear) {
         return Refusal::Gap;
     }
     Refusal::None
@@ -199,100 +144,6 @@ pub fn with_block(common: Refusal, w: u32, h: u32, view: u32, block: Block) -> R
     own(w, h, view, block)
 }
 
-// Number i of a side of n is the first or the last.
-fn at_end(i: u32, n: u32) -> bool
-    requires { ⌜ i < n ⌝ }
-    ensures { λ r. ⌜ r ≡ (eqb i 0 || eqb (i + 1) n) ⌝ }
-{
-    if i < 1 {
-        return true;
-    }
-    n - i == 1
-}
-
-// Numbers i and j of a side of n are both the first or both the last.
-fn both_at_end(i: u32, j: u32, n: u32) -> bool
-    requires { ⌜ i < n ⌝ }
-    ensures { λ r. ⌜ r ≡ ((eqb i 0 && eqb j 0) || (eqb (i + 1) n && eqb (j + 1) n)) ⌝ }
-{
-    if i != j {
-        return false;
-    }
-    at_end(i, n)
-}
-
-// A point of the block that lies in its first or last column or row.
-fn on_border(block: Block, p: Point) -> bool
-    ensures { λ r. ⌜ r ≡ onBorder block p ⌝ }
-{
-    if block.width <= p.column {
-        return false;
-    }
-    if block.height <= p.row {
-        return false;
-    }
-    if at_end(p.column, block.width) {
-        return true;
-    }
-    at_end(p.row, block.height)
-}
-
-// Two points with a side of the block in common: its first or last column or row.
-fn side_shared(block: Block, p: Point, q: Point) -> bool
-    requires { ⌜ (p .column < block .width) × (p .row < block .height) ⌝ }
-    ensures { λ r. ⌜ r ≡ sideShared block p q ⌝ }
-{
-    if both_at_end(p.column, q.column, block.width) {
-        return true;
-    }
-    both_at_end(p.row, q.row, block.height)
-}
-
-// A line has two border points of the block with no side in common.
-fn line_ok(block: Block, start: Point, end: Point) -> bool
-    ensures { λ r. ⌜ r ≡ lineOk block start end ⌝ }
-{
-    if !on_border(block, start) {
-        return false;
-    }
-    if !on_border(block, end) {
-        return false;
-    }
-    !side_shared(block, start, end)
-}
-
-// 7, 14 or 15 by the candidate's kind, none for one value; n is the number of bytes lent with it.
-fn candidate_refusal(block: Block, candidate: Candidate, n: usize) -> Refusal
-    ensures { λ r. ⌜ numberOf r ≡ candidateThen block candidate n 0 ⌝ }
-{
-    let area = (block.width as usize) * (block.height as usize);
-    match candidate {
-        Candidate::Full => {
-            if n != area {
-                return Refusal::Candidate;
-            }
-        }
-        Candidate::Flat(_) => {}
-        Candidate::Regions {
-            value0: _,
-            value1: _,
-            split,
-        } => match split {
-            Split::Line { start, end } => {
-                if !line_ok(block, start, end) {
-                    return Refusal::Line;
-                }
-            }
-            Split::Mask => {
-                if n != (area + 7) / 8 {
-                    return Refusal::Mask;
-                }
-            }
-        },
-    }
-    Refusal::None
-}
-
 // What was refused before, or else the candidate's own number.
 pub fn with_candidate(before: Refusal, block: Block, candidate: Candidate, n: usize) -> Refusal
     ensures { λ r. ⌜ numberOf r ≡ cond (eqb (numberOf before) 0) (candidateThen block candidate n 0) (numberOf before) ⌝ }
@@ -300,5 +151,5 @@ pub fn with_candidate(before: Refusal, block: Block, candidate: Candidate, n: us
     if model::number(before) != 0 {
         return before;
     }
-    candidate_refusal(block, candidate, n)
+    candidates::candidate_refusal(block, candidate, n)
 }

@@ -11,7 +11,7 @@ use Rattle.model.specs.Views.{seen}
 use Rattle.model.proofs.Lists.{length-row}
 use Rattle.model.proofs.Views.{length-seen}
 use Rattle.planes.proofs.SeenParts.{first-fits}
-use Rattle.row.proofs.Limits.{edge-edged}
+use Rattle.limits.proofs.Limits.{edge-edged}
 use Rattle.commit.proofs.Planes.{row-commits}
 use Rattle.commit.proofs.commit_row.Statement.{statement}
 use Rattle.commit.proofs.commit_row.Tie as tie
@@ -53,9 +53,9 @@ commit-row-spec =
     (tie.spec
     (λ c κs. search needs)
     redraw-row-requires
-    (λ c. search needs)
-    (λ c. search needs)
-    (λ c. search needs)
-    (λ c. search needs)
-    (λ c. search needs)
+    (λ c. c .before .before .before .before .before .before .before .before .before .before .before .before .before .before .before .change-row .kept .1 .1 .1 .1 .1 .1 .0)
+    (λ c. c .before .before .before .before .before .before .redraw-row .kept .1 .1 .1 .1 .1 .1 .1 .1 .1 .1 .0)
+    (λ c. c .before .before .before .before .before .before .redraw-row .kept .1 .1 .1 .1 .1 .1 .1 .1 .1 .1 .1 .0)
+    (λ c. c .before .before .before .before .before .before .before .before .before .before .before .before .before .before .before .change-row .kept .1 .1 .1 .1 .1 .1 .1 .0)
+    (λ c. c .before .before .before .before .before .before .redraw-row .kept .1 .1 .1 .1 .1 .1 .1 .1 .1 .1 .1 .1 .0)
     returns)

@@ -1,12 +1,13 @@
 -- `commit::redraw_row` meets its contract.
 use Prim.Native.Nat.{_+_, _-_, _*_}
-use mathlib.Core.Path.{sym, _∙_}
+use native.Mathlib.Nat.{le-add-right}
+use native.Mathlib.Omega.{arith}
+use mathlib.Core.Path.{sym, ap, _∙_}
 use denote.Ref.{now}
-use lib.ListN.{take, drop}
-use borrow.Author.Needs.{needs}
+use lib.ListN.{length, take, drop}
 use Rattle.model.specs.Marks.{markBytes}
 use Rattle.model.proofs.Views.{length-seen}
-use Rattle.planes.proofs.Splices.{part-row, part-length}
+use Rattle.planes.proofs.Splices.{part-row, part-length, put-back, length-splice}
 use Rattle.row.proofs.Wholes.{ready-seen}
 use Rattle.commit.proofs.Lent.{redrawn-row}
 use Rattle.commit.proofs.redraw_row.Statement.{statement}
@@ -28,6 +29,15 @@ redraw-requires c κs =
       ),
     )
 
+same-length-3 : tie.Need-same-length-3
+same-length-3 c =
+    let s = c .before .before .before .before .before .before .before .before .before .before .before .before .before .before .before .before .before in
+    let a = s .args in
+    let ys = c .before .before .before .before .before .before .redraw .last .1 .1 .1 .1 .1 .1 .1 .1 .1 .1 .1 .0 in
+    let e = c .before .before .before .before .before .before .redraw .kept .1 .1 .1 .1 .1 .1 .1 .1 .1 .1 .1 .0 ∙ part-length (now (a .marks)) (a .y * markBytes (a .w)) (markBytes (a .w)) (s .pre .1 .1 .1 .1 .1) in
+    ap length (put-back (now (a .marks)) ys (a .y * markBytes (a .w)) (markBytes (a .w)) e)
+    ∙ length-splice (now (a .marks)) (a .y * markBytes (a .w)) ys (rw e (s .pre .1 .1 .1 .1 .1))
+
 returns : tie.Need-returns
 returns c =
     let s = c .before .before .before .before .before .before .before .before .before .before .before .before .before .before .before .before .before in
@@ -42,23 +52,23 @@ pub redraw-row-spec : {M : Type 1} → statement M
 redraw-row-spec =
     tie.close
     (tie.spec
-    (λ c. search needs)
-    (λ c. search needs)
-    (λ c. search needs)
-    (λ c. search needs)
-    (λ c. search needs)
-    (λ c. search needs)
-    (λ c. search needs)
-    (λ c. search needs)
-    (λ c. search needs)
-    (λ c. search needs)
-    (λ c. search needs)
-    (λ c. search needs)
-    (λ c. search needs)
-    (λ c. search needs)
-    (λ c. search needs)
+    (λ c. let s = c .before .before .before .before .before in omega (arith, s .pre .1 .1 .0 .0, s .good))
+    (λ c. let s = c .before .before .before .before .before in omega (arith, s .pre .1 .1 .0 .0, s .good))
+    (λ c. let s = c .before .before .before .before .before in omega (arith, s .pre .0 .1 .1))
+    (λ c. let s = c .before .before .before .before .before in omega (arith, s .pre .1 .1 .1 .1 .1, s .good))
+    (λ c. let s = c .before .before .before .before .before in omega (arith, s .pre .1 .1 .1 .1 .1, s .good))
+    (λ c. let s = c .before .before .before .before .before in omega (arith, s .pre .1 .1 .0 .0, s .good))
+    (λ c. le-add-right _ _)
+    (λ c. le-add-right _ _)
+    (λ c. c .before .before .before .before .before .pre .1 .1 .0 .0)
+    (λ c. le-add-right _ _)
+    (λ c. le-add-right _ _)
+    (λ c. c .before .before .before .before .before .before .pre .1 .1 .0 .1)
+    (λ c. le-add-right _ _)
+    (λ c. le-add-right _ _)
+    (λ c. c .before .before .before .before .before .before .before .before .before .pre .1 .1 .1 .1 .1)
     redraw-requires
-    (λ c. search needs)
-    (λ c. search needs)
-    (λ c. search needs)
+    (λ c. c .before .before .before .before .before .before .redraw .kept .1 .1 .1 .1 .1 .1 .1 .1 .1 .0)
+    (λ c. c .before .before .before .before .before .before .redraw .kept .1 .1 .1 .1 .1 .1 .1 .1 .1 .1 .0)
+    same-length-3
     returns)

@@ -7,7 +7,8 @@ use lib.ListN.{length}
 use lib.Seq.{length-take-le}
 use denote.Ref.{now}
 use Rattle.planes.specs.Parts.{blockOf}
-use Rattle.trial.specs.Trial.{around, own, BlockTrial}
+use Rattle.strips.specs.Strips.{around, own}
+use Rattle.trial.specs.Trial.{BlockTrial}
 use Rattle.trial.proofs.Blocks.{block-none, block-small}
 use Rattle.restore.proofs.Parts.{narrow-requires, block-saved}
 use Rattle.restore.proofs.trial_saved.Statement.{statement}

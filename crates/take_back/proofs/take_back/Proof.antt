@@ -1,5 +1,5 @@
 -- `take_back::take_back` keeps TAKE BACK's promise, refused and accepted.
-use mathlib.Core.Path.{sym, _∙_}
+use mathlib.Core.Path.{refl, sym, _∙_}
 use native.Mathlib.Omega.{arith}
 use mir.Facts.{toZ-ofZ}
 use mir.Syntax.{w64}
@@ -19,7 +19,7 @@ returns c =
     let d = depths (a .leftDepths .now) (a .rightDepths .now) in
     let h = heldOf (a .leftSamples .now) (a .leftFronts .now) (a .leftLimits .now) (a .leftMarks .now) (a .rightSamples .now) (a .rightFronts .now) (a .rightLimits .now) (a .rightMarks .now) (a .combined .now) in
     let j = a .journal .now in
-    take-refused (a .t1) p d h j (c .before .before .refusal-of .result) (early-taken (a .t1) p d h j (c .before .before .refusal-of .ensures)) (λ z. c .if1 .taken (c .before .number .ensures ∙ z))
+    take-refused (a .t1) p d h j (c .before .before .take-back-refusal .result) (early-taken (a .t1) p d h j (c .before .before .take-back-refusal .ensures)) (λ z. c .if1 .taken (c .before .number .ensures ∙ z))
     (record { left = λ i. omega (arith, c .before .before .before .before .before .before .before .before .before .before .before .before .before .before .before .before .before .slice-known .given i); right = λ i. omega (arith, c .before .before .before .before .before .before .before .before .before .before .before .before .before .before .before .before .slice-known2 .given i) })
 
 newest-record-requires : tie.Need-newest-record-requires
@@ -30,7 +30,7 @@ newest-record-requires c κs =
     let d = depths (a .leftDepths .now) (a .rightDepths .now) in
     let h = heldOf (a .leftSamples .now) (a .leftFronts .now) (a .leftLimits .now) (a .leftMarks .now) (a .rightSamples .now) (a .rightFronts .now) (a .rightLimits .now) (a .rightMarks .now) (a .combined .now) in
     let j = a .journal .now in
-    newest-there (a .t1) p d h j (sym (early-taken (a .t1) p d h j (c .before .before .before .refusal-of .ensures)) ∙ sym (c .before .before .number .ensures) ∙ c .before .if1 .left)
+    newest-there (a .t1) p d h j (sym (early-taken (a .t1) p d h j (c .before .before .before .take-back-refusal .ensures)) ∙ sym (c .before .before .number .ensures) ∙ c .before .if1 .left)
 
 mul-restore-view : tie.Need-mul-restore-view
 mul-restore-view c =
@@ -40,7 +40,7 @@ mul-restore-view c =
     let d = depths (a .leftDepths .now) (a .rightDepths .now) in
     let h = heldOf (a .leftSamples .now) (a .leftFronts .now) (a .leftLimits .now) (a .leftMarks .now) (a .rightSamples .now) (a .rightFronts .now) (a .rightLimits .now) (a .rightMarks .now) (a .combined .now) in
     let j = a .journal .now in
-    let early = sym (early-taken (a .t1) p d h j (c .before .before .before .before .before .before .before .before .before .before .before .before .before .before .before .before .before .before .before .refusal-of .ensures)) ∙ sym (c .before .before .before .before .before .before .before .before .before .before .before .before .before .before .before .before .before .before .number .ensures) ∙ c .before .before .before .before .before .before .before .before .before .before .before .before .before .before .before .before .before .if1 .left in
+    let early = sym (early-taken (a .t1) p d h j (c .before .before .before .before .before .before .before .before .before .before .before .before .before .before .before .before .before .before .before .take-back-refusal .ensures)) ∙ sym (c .before .before .before .before .before .before .before .before .before .before .before .before .before .before .before .before .before .before .number .ensures) ∙ c .before .before .before .before .before .before .before .before .before .before .before .before .before .before .before .before .before .if1 .left in
     let e = c .before .before .before .before .before .before .before .before .before .before .before .before .before .before .before .newest-record .ensures in
     omega (arith, part-there (a .t1) p d h j early e .0, start .good)
 
@@ -52,7 +52,7 @@ part-restore-view-end c =
     let d = depths (a .leftDepths .now) (a .rightDepths .now) in
     let h = heldOf (a .leftSamples .now) (a .leftFronts .now) (a .leftLimits .now) (a .leftMarks .now) (a .rightSamples .now) (a .rightFronts .now) (a .rightLimits .now) (a .rightMarks .now) (a .combined .now) in
     let j = a .journal .now in
-    let early = sym (early-taken (a .t1) p d h j (c .before .before .before .before .before .before .before .before .before .before .before .before .before .before .before .before .before .before .before .before .refusal-of .ensures)) ∙ sym (c .before .before .before .before .before .before .before .before .before .before .before .before .before .before .before .before .before .before .before .number .ensures) ∙ c .before .before .before .before .before .before .before .before .before .before .before .before .before .before .before .before .before .before .if1 .left in
+    let early = sym (early-taken (a .t1) p d h j (c .before .before .before .before .before .before .before .before .before .before .before .before .before .before .before .before .before .before .before .before .take-back-refusal .ensures)) ∙ sym (c .before .before .before .before .before .before .before .before .before .before .before .before .before .before .before .before .before .before .before .number .ensures) ∙ c .before .before .before .before .before .before .before .before .before .before .before .before .before .before .before .before .before .before .if1 .left in
     let e = c .before .before .before .before .before .before .before .before .before .before .before .before .before .before .before .before .newest-record .ensures in
     part-there (a .t1) p d h j early e .1
 
@@ -64,7 +64,7 @@ restore-view-requires c κs =
     let d = depths (a .leftDepths .now) (a .rightDepths .now) in
     let h = heldOf (a .leftSamples .now) (a .leftFronts .now) (a .leftLimits .now) (a .leftMarks .now) (a .rightSamples .now) (a .rightFronts .now) (a .rightLimits .now) (a .rightMarks .now) (a .combined .now) in
     let j = a .journal .now in
-    let early = sym (early-taken (a .t1) p d h j (c .before .before .before .before .before .before .before .before .before .before .before .before .before .before .before .before .before .before .before .before .before .refusal-of .ensures)) ∙ sym (c .before .before .before .before .before .before .before .before .before .before .before .before .before .before .before .before .before .before .before .before .number .ensures) ∙ c .before .before .before .before .before .before .before .before .before .before .before .before .before .before .before .before .before .before .before .if1 .left in
+    let early = sym (early-taken (a .t1) p d h j (c .before .before .before .before .before .before .before .before .before .before .before .before .before .before .before .before .before .before .before .before .before .take-back-refusal .ensures)) ∙ sym (c .before .before .before .before .before .before .before .before .before .before .before .before .before .before .before .before .before .before .before .before .number .ensures) ∙ c .before .before .before .before .before .before .before .before .before .before .before .before .before .before .before .before .before .before .before .if1 .left in
     taken-requires (a .t1) p d h j early (c .before .before .before .before .before .before .before .before .before .before .before .before .before .before .before .before .before .newest-record .ensures)
 
 strike-requires : tie.Need-strike-requires
@@ -75,7 +75,7 @@ strike-requires c κs =
     let d = depths (a .leftDepths .now) (a .rightDepths .now) in
     let h = heldOf (a .leftSamples .now) (a .leftFronts .now) (a .leftLimits .now) (a .leftMarks .now) (a .rightSamples .now) (a .rightFronts .now) (a .rightLimits .now) (a .rightMarks .now) (a .combined .now) in
     let j = a .journal .now in
-    newest-there (a .t1) p d h j (sym (early-taken (a .t1) p d h j (c .before .before .before .before .before .before .before .before .before .before .before .before .before .before .before .before .before .before .before .before .before .before .before .before .before .before .before .before .before .before .before .before .before .before .before .before .before .before .before .before .before .before .before .refusal-of .ensures)) ∙ sym (c .before .before .before .before .before .before .before .before .before .before .before .before .before .before .before .before .before .before .before .before .before .before .before .before .before .before .before .before .before .before .before .before .before .before .before .before .before .before .before .before .before .before .number .ensures) ∙ c .before .before .before .before .before .before .before .before .before .before .before .before .before .before .before .before .before .before .before .before .before .before .before .before .before .before .before .before .before .before .before .before .before .before .before .before .before .before .before .before .before .if1 .left) .0
+    newest-there (a .t1) p d h j (sym (early-taken (a .t1) p d h j (c .before .before .before .before .before .before .before .before .before .before .before .before .before .before .before .before .before .before .before .before .before .before .before .before .before .before .before .before .before .before .before .before .before .before .before .before .before .before .before .before .before .before .before .take-back-refusal .ensures)) ∙ sym (c .before .before .before .before .before .before .before .before .before .before .before .before .before .before .before .before .before .before .before .before .before .before .before .before .before .before .before .before .before .before .before .before .before .before .before .before .before .before .before .before .before .before .number .ensures) ∙ c .before .before .before .before .before .before .before .before .before .before .before .before .before .before .before .before .before .before .before .before .before .before .before .before .before .before .before .before .before .before .before .before .before .before .before .before .before .before .before .before .before .if1 .left) .0
 
 same-length-2 : tie.Need-same-length-2
 same-length-2 c = c .before .before .before .before .before .before .before .before .before .before .before .before .before .before .before .before .before .before .before .before .before .before .before .before .before .restore-view .kept .1 .1 .1 .1 .1 .1 .1 .1 .1 .1 .1 .0
@@ -109,10 +109,10 @@ returns-2 c =
     let d = depths (a .leftDepths .now) (a .rightDepths .now) in
     let h = heldOf (a .leftSamples .now) (a .leftFronts .now) (a .leftLimits .now) (a .leftMarks .now) (a .rightSamples .now) (a .rightFronts .now) (a .rightLimits .now) (a .rightMarks .now) (a .combined .now) in
     let j = a .journal .now in
-    let early = sym (early-taken (a .t1) p d h j (c .before .before .before .before .before .before .before .before .before .before .before .before .before .before .before .before .before .before .before .before .before .before .before .before .before .before .before .before .before .before .before .before .before .before .before .before .before .before .before .before .before .before .before .before .before .before .before .refusal-of .ensures)) ∙ sym (c .before .before .before .before .before .before .before .before .before .before .before .before .before .before .before .before .before .before .before .before .before .before .before .before .before .before .before .before .before .before .before .before .before .before .before .before .before .before .before .before .before .before .before .before .before .before .number .ensures) ∙ c .before .before .before .before .before .before .before .before .before .before .before .before .before .before .before .before .before .before .before .before .before .before .before .before .before .before .before .before .before .before .before .before .before .before .before .before .before .before .before .before .before .before .before .before .before .if1 .left in
+    let early = sym (early-taken (a .t1) p d h j (c .before .before .before .before .before .before .before .before .before .before .before .before .before .before .before .before .before .before .before .before .before .before .before .before .before .before .before .before .before .before .before .before .before .before .before .before .before .before .before .before .before .before .before .before .before .before .before .take-back-refusal .ensures)) ∙ sym (c .before .before .before .before .before .before .before .before .before .before .before .before .before .before .before .before .before .before .before .before .before .before .before .before .before .before .before .before .before .before .before .before .before .before .before .before .before .before .before .before .before .before .before .before .before .before .number .ensures) ∙ c .before .before .before .before .before .before .before .before .before .before .before .before .before .before .before .before .before .before .before .before .before .before .before .before .before .before .before .before .before .before .before .before .before .before .before .before .before .before .before .before .before .before .before .before .before .if1 .left in
     let settling = c .before .before .before .before .before .before .before .before .before .before .before .before .before .before .before .before .before .before .before .before .before .before .before .before .before .restore-view in
     let struck = c .before .before .before .strike .ensures in
-    let fits : SFits w64 (settling .result .change) = (let told = c .struct-told in search needs) in
+    let fits : SFits w64 (settling .result .change) = record { sfits = c .struct-told .given .1 .0 .1 } in
     take-settled (a .t1) p d h j (settling .result) _ (toZ-ofZ fits) _ _ _ early (c .before .before .before .before .before .before .before .before .before .before .before .before .before .before .before .before .before .before .before .before .before .before .before .before .before .before .before .before .before .before .before .before .before .before .before .before .before .before .before .before .before .before .before .newest-record .ensures) (settling .ensures) struck
     (record { left = λ i. omega (arith, c .before .before .before .before .before .before .before .before .before .before .before .before .before .before .before .before .before .before .before .before .before .before .before .slice-known11 .given i); right = λ i. omega (arith, c .before .before .before .before .before .before .before .before .before .before .before .before .before .before .before .before .before .before .before .before .before .slice-known12 .given i) })
 
@@ -120,9 +120,9 @@ pub take-back-spec : {M : Type 1} → statement M
 take-back-spec =
     tie.close
     (tie.spec
-    (λ c κs. search needs)
-    (λ c κs. search needs)
-    (λ c. search needs)
+    (λ c κs. tt)
+    (λ c κs. tt)
+    (λ c. refl)
     returns
     newest-record-requires
     mul-restore-view
@@ -139,8 +139,8 @@ take-back-spec =
     same-length-7
     same-length-8
     same-length-9
-    (λ c. search needs)
-    (λ c. search needs)
-    (λ c. search needs)
-    (λ c. search needs)
+    (λ c. c .before .before .before .before .before .before .before .before .before .before .before .before .before .before .before .before .before .before .before .before .before .before .before .before .before .restore-view .kept .1 .1 .1 .1 .1 .1 .1 .1 .1 .1 .1 .1 .1 .1 .1 .1 .1 .1 .1 .0)
+    (λ c. c .before .before .before .before .before .before .before .before .before .before .before .before .before .before .before .before .before .before .before .before .before .before .before .before .before .restore-view .kept .1 .1 .1 .1 .1 .1 .1 .1 .1 .1 .1 .1 .1 .1 .1 .1 .1 .1 .1 .1 .0)
+    (λ c. c .before .before .before .before .before .before .before .before .before .before .before .before .before .before .before .before .before .before .before .before .before .before .before .before .before .restore-view .kept .1 .1 .1 .1 .1 .1 .1 .1 .1 .1 .1 .1 .1 .1 .1 .1 .1 .1 .1 .1 .1 .0)
+    (λ c. c .before .before .before .strike .kept .1 .1 .0)
     returns-2)

@@ -3,11 +3,17 @@ use Prim.Native.Nat.{_+_, _-_, _*_}
 use mathlib.Core.Path.{_≡_}
 use native.Mathlib.Omega.{arith}
 use denote.Ref.{now}
-use borrow.Author.Needs.{needs}
 use Rattle.model.specs.Lists.{rowOf}
 use Rattle.planes.proofs.Splices.{part-length}
 use Rattle.trial.proofs.trial_at.Statement.{statement}
 use Rattle.trial.proofs.trial_at.Tie as tie
+use native.Mathlib.Nat.{le-add-right}
+use mir.Val.{Fits}
+use mir.Syntax.{w64}
+
+-- The bytes before row y of a plane of 16-bit entries.
+doubled : (s : tie.Start) → Fits w64 (s .args .y * s .args .w * 2)
+doubled s = omega (arith, s .pre .1 .0, s .good)
 
 trial-beside-requires : tie.Need-trial-beside-requires
 trial-beside-requires c κs =
@@ -42,23 +48,23 @@ pub trial-at-spec : {M : Type 1} → statement M
 trial-at-spec =
     tie.close
     (tie.spec
-    (λ c. search needs)
-    (λ c. search needs)
-    (λ c. search needs)
-    (λ c. search needs)
-    (λ c. search needs)
-    (λ c. search needs)
-    (λ c. search needs)
-    (λ c. search needs)
-    (λ c. search needs)
-    (λ c. search needs)
-    (λ c. search needs)
-    (λ c. search needs)
-    (λ c. search needs)
-    (λ c. search needs)
-    (λ c. search needs)
-    (λ c. search needs)
-    (λ c. search needs)
-    (λ c. search needs)
+    (λ c. let s = c .before .before .before .before .before .before .before .before in omega (arith, s .pre, s .good))
+    (λ c. let s = c .before .before .before .before .before .before .before .before in omega (arith, s .pre, s .good))
+    (λ c. let s = c .before .before .before .before .before .before .before .before in omega (arith, s .pre, s .good))
+    (λ c. let s = c .before .before .before .before .before .before .before .before in omega (arith, s .pre, s .good))
+    (λ c. doubled (c .before .before .before .before .before .before .before .before))
+    (λ c. le-add-right _ _)
+    (λ c. le-add-right _ _)
+    (λ c. c .before .before .before .before .before .before .before .before .pre .1 .0 .texture)
+    (λ c. le-add-right _ _)
+    (λ c. le-add-right _ _)
+    (λ c. c .before .before .before .before .before .before .before .before .before .pre .1 .0 .depths)
+    (λ c. doubled (c .before .before .before .before .before .before .before .before .before .before))
+    (λ c. le-add-right _ _)
+    (λ c. le-add-right _ _)
+    (λ c. c .before .before .before .before .before .before .before .before .before .before .pre .1 .0 .limits)
+    (λ c. le-add-right _ _)
+    (λ c. le-add-right _ _)
+    (λ c. c .before .before .before .before .before .before .before .before .before .before .before .pre .1 .1 .1 .0)
     trial-beside-requires
     returns)

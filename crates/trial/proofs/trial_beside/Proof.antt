@@ -1,14 +1,20 @@
 -- `trial::trial_beside` meets its contract: the parts that are lent are the rows.
 use Prim.Native.Nat.{_+_, _-_, _*_}
+use native.Mathlib.Nat.{le-add-right}
 use mathlib.Core.Path.{_≡_, sym, _∙_}
 use native.Mathlib.Omega.{arith}
+use mir.Val.{Fits}
+use mir.Syntax.{w64}
 use denote.Ref.{now}
-use borrow.Author.Needs.{needs}
 use Rattle.model.specs.Lists.{rowOf}
 use Rattle.model.specs.Marks.{markBytes}
 use Rattle.planes.proofs.Splices.{part-length}
 use Rattle.trial.proofs.trial_beside.Statement.{statement}
 use Rattle.trial.proofs.trial_beside.Tie as tie
+
+-- The bytes before row y of a plane of 16-bit samples.
+doubled : (s : tie.Start) → Fits w64 (s .args .y * s .args .w * 2)
+doubled s = omega (arith, s .pre .1 .0, s .good)
 
 trial-row-requires : tie.Need-trial-row-requires
 trial-row-requires c κs =
@@ -47,28 +53,28 @@ pub trial-beside-spec : {M : Type 1} → statement M
 trial-beside-spec =
     tie.close
     (tie.spec
-    (λ c. search needs)
-    (λ c. search needs)
-    (λ c. search needs)
-    (λ c. search needs)
-    (λ c. search needs)
-    (λ c. search needs)
-    (λ c. search needs)
-    (λ c. search needs)
-    (λ c. search needs)
-    (λ c. search needs)
-    (λ c. search needs)
-    (λ c. search needs)
-    (λ c. search needs)
-    (λ c. search needs)
-    (λ c. search needs)
-    (λ c. search needs)
-    (λ c. search needs)
-    (λ c. search needs)
-    (λ c. search needs)
-    (λ c. search needs)
-    (λ c. search needs)
-    (λ c. search needs)
-    (λ c. search needs)
+    (λ c. let s = c .before .before .before .before .before .before .before .before in omega (arith, s .pre .1))
+    (λ c. let s = c .before .before .before .before .before .before .before .before in omega (arith, s .pre .1 .0, s .good))
+    (λ c. let s = c .before .before .before .before .before .before .before .before in omega (arith, s .pre .1 .0, s .good))
+    (λ c. let s = c .before .before .before .before .before .before .before .before in omega (arith, s .pre .1 .0, s .good))
+    (λ c. let s = c .before .before .before .before .before .before .before .before in omega (arith, s .pre .1 .0, s .good))
+    (λ c. doubled (c .before .before .before .before .before .before .before .before))
+    (λ c. le-add-right _ _)
+    (λ c. le-add-right _ _)
+    (λ c. c .before .before .before .before .before .before .before .before .pre .1 .0 .samples)
+    (λ c. le-add-right _ _)
+    (λ c. le-add-right _ _)
+    (λ c. c .before .before .before .before .before .before .before .before .before .pre .1 .0 .fronts)
+    (λ c. le-add-right _ _)
+    (λ c. le-add-right _ _)
+    (λ c. c .before .before .before .before .before .before .before .before .before .before .pre .1 .0 .marks)
+    (λ c. doubled (c .before .before .before .before .before .before .before .before .before .before .before))
+    (λ c. le-add-right _ _)
+    (λ c. le-add-right _ _)
+    (λ c. c .before .before .before .before .before .before .before .before .before .before .before .pre .1 .0 .combined)
+    (λ c. doubled (c .before .before .before .before .before .before .before .before .before .before .before .before))
+    (λ c. le-add-right _ _)
+    (λ c. le-add-right _ _)
+    (λ c. c .before .before .before .before .before .before .before .before .before .before .before .before .pre .1 .0 .reference)
     trial-row-requires
     returns)

@@ -7,7 +7,8 @@ use borrow.Author.Needs.{needs}
 use Rattle.model.specs.Lists.{rowOf}
 use Rattle.model.specs.Span.{firstColumn}
 use Rattle.planes.specs.Parts.{blockOf}
-use Rattle.trial.specs.Trial.{around, own, ownRow, aroundRow, RowTrial, BlockTrial}
+use Rattle.strips.specs.Strips.{around, own, RowTrial}
+use Rattle.trial.specs.Trial.{ownRow, aroundRow, BlockTrial}
 use Rattle.trial.proofs.Blocks.{block-none, block-next, block-small, own-in, around-in, candidate-in}
 use Rattle.trial.proofs.trial_block.Statement.{statement}
 use Rattle.trial.proofs.trial_block.Tie as tie

@@ -3,7 +3,7 @@ use native.Mathlib.Omega.{arith}
 use borrow.Author.Tests.{le-leb, leb-true}
 use Rattle.model.proofs.Choice.{not-true}
 use Rattle.model.proofs.Refusals.{block-yes, block-facts}
-use Rattle.validate.proofs.Facts.{same-test}
+use Rattle.model.proofs.Choice.{same-test}
 use borrow.Author.Needs.{needs}
 use Rattle.validate.proofs.block_ok.Statement.{statement}
 use Rattle.validate.proofs.block_ok.Tie as tie

@@ -2,7 +2,8 @@ use mathlib.Core.Path.{sym}
 use native.Mathlib.Omega.{arith}
 use borrow.Author.Tests.{eq-eqb, eqb-true}
 use Rattle.model.proofs.Choice.{not-true}
-use Rattle.validate.proofs.Facts.{same-test, view-yes, view-facts}
+use Rattle.model.proofs.Choice.{same-test}
+use Rattle.validate.proofs.Facts.{view-yes, view-facts}
 use Rattle.validate.proofs.view_sized.Statement.{statement}
 use Rattle.validate.proofs.view_sized.Tie as tie
 

@@ -1,0 +1,2 @@
+-- What an exported entry answers.
+pub mod Answers

@@ -1,0 +1,2 @@
+-- Why ends that are shared are one test.
+pub mod Lines

@@ -1,2 +1,0 @@
--- The walk of CHECK over all positions.
-pub mod Walks

@@ -1,0 +1,2 @@
+-- An edit of one row.
+pub mod Changes

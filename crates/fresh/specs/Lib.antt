@@ -1,0 +1,2 @@
+-- What filling all held planes leaves.
+pub mod Filled

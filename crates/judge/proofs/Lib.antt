@@ -1,0 +1,2 @@
+-- Why 8 and then the rest are decided.
+pub mod Judging

@@ -1,0 +1,2 @@
+-- What is judged by two sums.
+pub mod Judged

@@ -1,0 +1,2 @@
+-- Limits as they are held and drawn.
+pub mod Limits

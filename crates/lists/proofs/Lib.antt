@@ -1,0 +1,2 @@
+-- Why RENDER's tests are those of the model.
+pub mod Strips

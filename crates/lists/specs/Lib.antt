@@ -1,0 +1,2 @@
+-- RENDER's list over numbers.
+pub mod Numbers

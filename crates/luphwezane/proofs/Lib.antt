@@ -1,2 +1,0 @@
--- Why the exported entries answer what the entries promise.
-pub mod Told

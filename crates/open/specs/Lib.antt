@@ -1,2 +1,0 @@
--- What OPEN leaves.
-pub mod Filled

@@ -1,0 +1,2 @@
+-- Why it holds: the laws of places.
+pub mod Lows

@@ -1,0 +1,2 @@
+-- Places and positions of a row.
+pub mod Positions

@@ -1,0 +1,2 @@
+-- Why joined bits decide.
+pub mod Joined

@@ -1,0 +1,2 @@
+-- Why rows of words are narrowed to depths.
+pub mod Narrowing

@@ -1,0 +1,3 @@
+-- Records as they are read.
+pub mod Taken
+pub mod Rows

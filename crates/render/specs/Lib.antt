@@ -1,2 +1,0 @@
--- The refusals of RENDER over numbers.
-pub mod Numbers

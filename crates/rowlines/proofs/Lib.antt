@@ -1,0 +1,2 @@
+-- Why the lines are those of the definition.
+pub mod Puts

@@ -1,0 +1,2 @@
+-- What the walk finds.
+pub mod Walks

@@ -1,2 +1,0 @@
--- What SET leaves.
-pub mod Settled

@@ -1,0 +1,2 @@
+-- Why SET and TAKE BACK settle what they promise.
+pub mod Settling

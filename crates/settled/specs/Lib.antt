@@ -1,0 +1,2 @@
+-- What settling leaves.
+pub mod Settled

@@ -1,0 +1,2 @@
+-- The trial of a row.
+pub mod Strips

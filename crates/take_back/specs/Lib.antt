@@ -1,2 +1,0 @@
--- What TAKE BACK reads and writes of the journal.
-pub mod Taken

@@ -1,0 +1,2 @@
+-- Bytes joined to words.
+pub mod Words
