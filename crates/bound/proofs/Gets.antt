@@ -1,7 +1,10 @@
--- What a caller learns of a call of `luph_raw_get` carries GET's promise, so the call is a step of a run of either kind. a is what it was passed, x what it left, r the number.
-use Prim.Native.Nat.{ℕ}
+-- What a caller learns of a call of `luph_raw_get` carries GET's promise, so the call is a step of a run of either kind, and of one depth sample it is within the bound of
+-- document 02, card 4. a is what it was passed, x what it left, r the number.
+use Prim.Native.Nat.{ℕ, _≤_}
+use mathlib.Core.Path.{_≡_}
 use mathlib.Core.List.{List, [], _∷_}
-use lib.IntN.{ℤ}
+use lib.IntN.{ℤ, natAbs}
+use lib.ListN.{getD}
 use denote.Ref.{now}
 use denote.Triple.Clauses.{AtExit}
 use contract.Lifetimes.{Lfts}
@@ -9,18 +12,22 @@ use borrow.Fn.Kinds.{Dens, endedOf}
 use Rattle.model.specs.declared.Settings.{Settings}
 use Rattle.model.specs.declared.Block.{Block}
 use Rattle.model.specs.declared.Candidate.{Candidate}
-use Rattle.model.specs.Planes.{Pictures, Depths, Held, State, pictures, depths, view, held}
-use Rattle.model.specs.Promises.{GetPost}
+use Rattle.model.specs.Views.{isRight}
+use Rattle.model.specs.Planes.{Pictures, Depths, Held, State, pictures, depths, view, held, readHeld}
+use Rattle.model.specs.Candidates.{filled}
+use Rattle.model.specs.Promises.{Sound, GetPost}
 use Rattle.decide.specs.Decided.{settingsOf}
 use Rattle.shape.specs.Shapes.{candidateOf, bytesOf}
 use Rattle.run.specs.Run.{Call, Event, Run, leaves, plainAnswer}
 use Rattle.run.specs.Run.Call.{get}
 use Rattle.run.specs.Shared.{SharedCall, SharedRun}
 use Rattle.run.specs.Shared.SharedCall.{get as shared-get}
+use Rattle.reach.specs.Reach.{OneDepth, mostChange, reachOf}
+use Rattle.reach.specs.Held.{heldLength}
 use Rattle.luphwezane.specs.Exports.{TriedOut}
 use Rattle.luphwezane.proofs.luph_raw_get.Reads as get-reads
 use Rattle.luphwezane.proofs.luph_raw_get.Kinds as get-kinds
-use Rattle.bound.proofs.Steps.{got-step, got-shared}
+use Rattle.bound.proofs.Steps.{got-step, got-shared, tried-within, tried-held}
 
 module _ (κs : Lfts 17) (a : Dens κs get-kinds.ps) (r : ℕ) (x : AtExit (endedOf 17 get-kinds.ps get-kinds.r) κs) (learnt : get-reads.Learnt κs a r x) where
   abbrev s : Settings
@@ -65,3 +72,10 @@ module _ (κs : Lfts 17) (a : Dens κs get-kinds.ps) (r : ℕ) (x : AtExit (ende
       {j end : List ℕ} {cs : List SharedCall} {es : List Event} {last : State} → SharedRun p (leaves s d₀ h₀) j cs es last end →
       SharedRun p (leaves s d₀ h₀) j (shared-get v b c y ∷ cs) (record { reply = plainAnswer r change; after = leaves s d₀ h₀; journal = j } ∷ es) last end
   get-shared = got-shared get-bound
+
+  -- A call of one depth sample answers a change within the bound of document 02, card 4 (get-within), also where L is worked out as include/luphwezane.h says (get-held).
+  pub get-within : Sound s p d₀ (readHeld h₀) → r ≡ 0 → OneDepth b → natAbs change ≤ reachOf s d₀ v b (filled b c y)
+  get-within = tried-within get-bound
+
+  pub get-held : Sound s p d₀ (readHeld h₀) → r ≡ 0 → OneDepth b → natAbs change ≤ mostChange (heldLength s (isRight v) b d₀ h₀ (getD (filled b c y) 0 0))
+  get-held = tried-held get-bound

@@ -8,15 +8,16 @@ use denote.Triple.Clauses.{AtExit}
 use contract.Lifetimes.{Lfts}
 use borrow.Fn.Kinds.{Dens, endedOf}
 use Rattle.model.specs.declared.Settings.{Settings}
-use Rattle.model.specs.Planes.{Pictures, Depths, Held, State, pictures, depths, view, held}
-use Rattle.model.specs.Promises.{OpenPost}
-use Rattle.run.specs.Run.{Call, Event, Run, leaves, plain, RunPost}
-use Rattle.run.specs.Shared.{SharedCall, SharedRun, opened, SharedPost}
+use Rattle.model.specs.Planes.{Pictures, Depths, Held, State, pictures, depths, view, held, readHeld}
+use Rattle.model.specs.Promises.{Sound, OpenPost}
+use Rattle.run.specs.Run.{Call, Event, Run, leaves, plain, plainEnd, RunPost}
+use Rattle.run.specs.Shared.{SharedCall, SharedRun, opened, sharedEnd, SharedPost}
+use Rattle.reach.specs.Runs.{AllWithin, AllSharedWithin}
 use Rattle.luphwezane.specs.Exports.{OpenedOut}
 use Rattle.luphwezane.proofs.luph_raw_open.Reads as open-reads
 use Rattle.luphwezane.proofs.luph_raw_open.Kinds as open-kinds
 use Rattle.bound.specs.Latest.{latest}
-use Rattle.bound.proofs.Steps.{opened-run, opened-shared}
+use Rattle.bound.proofs.Steps.{opened-run, opened-shared, opened-sound, opened-shared-sound, opened-within, opened-shared-within}
 
 module _ (κs : Lfts 16) (a : Dens κs open-kinds.ps) (r : ℕ) (x : AtExit (endedOf 16 open-kinds.ps open-kinds.r) κs) (learnt : open-reads.Learnt κs a r x) where
   abbrev s : Settings
@@ -56,3 +57,21 @@ module _ (κs : Lfts 16) (a : Dens κs open-kinds.ps) (r : ℕ) (x : AtExit (end
       r ≡ 0 → {cs : List SharedCall} {es : List Event} {last : State} {end : List ℕ} → SharedRun p (leaves (latest r s s total) d₀ h) j cs es last end →
       SharedPost (opened (plain s p d₀) j₀) (leaves (latest r s s total) d₀ h) j cs es last end
   open-shared = opened-shared open-bound
+
+  -- What the run leaves is sound as GET reads it.
+  pub open-sound : r ≡ 0 → {cs : List Call} {es : List Event} {last : State} → Run p (leaves (latest r s s total) d₀ h) cs es last → Sound (last .settings) (plainEnd (plain s p d₀) cs .pictures) (last .depths) (readHeld (last .held))
+  open-sound = opened-sound open-bound
+
+  pub open-shared-sound :
+      r ≡ 0 → {cs : List SharedCall} {es : List Event} {last : State} {end : List ℕ} → SharedRun p (leaves (latest r s s total) d₀ h) j cs es last end →
+      Sound (last .settings) (sharedEnd (opened (plain s p d₀) j₀) cs .start .pictures) (last .depths) (readHeld (last .held))
+  open-shared-sound = opened-shared-sound open-bound
+
+  -- The bound of document 02, card 4, holds in the run.
+  pub open-within : r ≡ 0 → {cs : List Call} {es : List Event} {last : State} → Run p (leaves (latest r s s total) d₀ h) cs es last → AllWithin (plain s p d₀) cs es
+  open-within = opened-within open-bound
+
+  pub open-shared-within :
+      r ≡ 0 → {cs : List SharedCall} {es : List Event} {last : State} {end : List ℕ} → SharedRun p (leaves (latest r s s total) d₀ h) j cs es last end →
+      AllSharedWithin (opened (plain s p d₀) j₀) cs es
+  open-shared-within = opened-shared-within open-bound

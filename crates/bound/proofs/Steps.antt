@@ -3,11 +3,15 @@
 --     got-step, wrote-step, moved-step                 of a run in which each call is passed its own journal
 --     got-shared, wrote-shared, took-shared, moved-shared   of a run with one journal
 --     opened-run, opened-shared                        an accepted OPEN and a run after it: the theorems of a run hold
-use Prim.Native.Nat.{ℕ}
+--     opened-sound, opened-shared-sound                what the run leaves is sound as GET reads it
+--     opened-within, opened-shared-within              and the bound of document 02, card 4, in such a run
+--     tried-within, tried-held                         and of a GET alone, also as a caller works it out from what it holds
+use Prim.Native.Nat.{ℕ, _≤_}
 use mathlib.Core.Path.{_≡_, sym, ap, _∙_, subst}
 use mathlib.Core.List.{List, [], _∷_}
 use lib.Dec.{eqb}
-use lib.IntN.{ℤ, pos}
+use lib.IntN.{ℤ, pos, natAbs}
+use lib.ListN.{getD}
 use borrow.Author.Tests.{eqb-true, eqb-false}
 use Rattle.model.specs.declared.Settings.{Settings}
 use Rattle.model.specs.declared.Block.{Block}
@@ -15,18 +19,26 @@ use Rattle.model.specs.declared.Candidate.{Candidate}
 use Rattle.model.specs.declared.Opened.{Opened}
 use Rattle.model.specs.declared.Trial.{Trial}
 use Rattle.model.specs.declared.Edited.{Edited}
-use Rattle.model.specs.Planes.{Pictures, Depths, Held, State, withTotal, withSeat, withReference}
+use Rattle.model.specs.Views.{isRight}
+use Rattle.model.specs.Planes.{Pictures, Depths, Held, State, withTotal, withSeat, withReference, readHeld}
+use Rattle.model.specs.Candidates.{filled}
 use Rattle.model.specs.Refusals.{numberOf}
-use Rattle.model.specs.Promises.{FillPost, OpenPost, MovePost, GetPost, EditPost, SetPost, TakeBackPost}
+use Rattle.model.specs.Promises.{Sound, FillPost, OpenPost, MovePost, GetPost, EditPost, SetPost, TakeBackPost}
 use Rattle.model.proofs.Choice.{bool-cases}
-use Rattle.run.specs.Run.{Call, Reply, Event, Run, replyOf, leaves, picturesAfter, plain, plainAnswer, RunPost}
+use Rattle.run.specs.Run.{Call, Reply, Event, Run, replyOf, leaves, picturesAfter, plain, plainAnswer, plainEnd, RunPost}
 use Rattle.run.specs.Run.Call.{get, set, move}
 use Rattle.run.specs.Run.Run.{got, wrote, moved}
-use Rattle.run.specs.Shared.{SharedCall, SharedRun, opened, SharedPost}
+use Rattle.run.specs.Shared.{SharedCall, SharedRun, opened, sharedEnd, SharedPost}
 use Rattle.run.specs.Shared.SharedCall.{get as shared-get, set as shared-set, takeBack, move as shared-move}
 use Rattle.run.specs.Shared.SharedRun.{got as also-got, wrote as also-wrote, took, moved as also-moved}
-use Rattle.run.proofs.Run.{session-run}
-use Rattle.run.proofs.Shared.{shared-run}
+use Rattle.run.proofs.Run.{session-run, halted-sound}
+use Rattle.run.proofs.Shared.{shared-run, shared-sound}
+use Rattle.reach.specs.Reach.{OneDepth, mostChange, reachOf}
+use Rattle.reach.specs.Held.{heldLength}
+use Rattle.reach.specs.Runs.{AllWithin, AllSharedWithin}
+use Rattle.reach.proofs.Change.{get-within}
+use Rattle.reach.proofs.Held.{get-held}
+use Rattle.reach.proofs.Runs.{session-within, shared-within}
 use Rattle.luphwezane.specs.Exports.{OpenedOut, TriedOut, EditedOut}
 use Rattle.bound.specs.Latest.{latest}
 
@@ -148,3 +160,38 @@ module _ {s : Settings} {p : Pictures} {d : Depths} {h₀ h : Held} {j₀ j : Li
       let e = filled-settings o (o .promised) in
       subst (λ (n : Settings). SharedPost (opened (plain s p d) j₀) (leaves n d h) j cs es last end) e
       (shared-run s p d h₀ h j₀ j (o .reply) (o .promised) (sym (o .told .number-is) ∙ accepted) (subst (λ (n : Settings). SharedRun p (leaves n d h) j cs es last end) (sym e) run))
+
+  pub opened-sound : {cs : List Call} {es : List Event} {last : State} → Run p (leaves (latest number s s total) d h) cs es last → Sound (last .settings) (plainEnd (plain s p d) cs .pictures) (last .depths) (readHeld (last .held))
+  opened-sound {cs} {es} {last} run =
+      halted-sound s p d h₀ h j₀ j (o .reply) (o .promised) (sym (o .told .number-is) ∙ accepted)
+      (subst (λ (n : Settings). Run p (leaves n d h) cs es last) (sym (filled-settings o (o .promised))) run)
+
+  pub opened-shared-sound :
+      {cs : List SharedCall} {es : List Event} {last : State} {end : List ℕ} → SharedRun p (leaves (latest number s s total) d h) j cs es last end →
+      Sound (last .settings) (sharedEnd (opened (plain s p d) j₀) cs .start .pictures) (last .depths) (readHeld (last .held))
+  opened-shared-sound {cs} {es} {last} {end} run =
+      shared-sound s p d h₀ h j₀ j (o .reply) (o .promised) (sym (o .told .number-is) ∙ accepted)
+      (subst (λ (n : Settings). SharedRun p (leaves n d h) j cs es last end) (sym (filled-settings o (o .promised))) run)
+
+  pub opened-within : {cs : List Call} {es : List Event} {last : State} → Run p (leaves (latest number s s total) d h) cs es last → AllWithin (plain s p d) cs es
+  opened-within {cs} {es} {last} run =
+      session-within s p d h₀ h j₀ j (o .reply) (o .promised) (sym (o .told .number-is) ∙ accepted)
+      (subst (λ (n : Settings). Run p (leaves n d h) cs es last) (sym (filled-settings o (o .promised))) run)
+
+  pub opened-shared-within :
+      {cs : List SharedCall} {es : List Event} {last : State} {end : List ℕ} → SharedRun p (leaves (latest number s s total) d h) j cs es last end →
+      AllSharedWithin (opened (plain s p d) j₀) cs es
+  opened-shared-within {cs} {es} {last} {end} run =
+      shared-within s p d h₀ h j₀ j (o .reply) (o .promised) (sym (o .told .number-is) ∙ accepted)
+      (subst (λ (n : Settings). SharedRun p (leaves n d h) j cs es last end) (sym (filled-settings o (o .promised))) run)
+
+-- A GET alone: it writes the change of its reply through the pointer, so that what bounds the one bounds the other.
+tried-most : {promise : Trial → Type 0} {number : ℕ} {change₀ change : ℤ} (o : TriedOut promise number change₀ change) → number ≡ 0 → (most : ℕ) → natAbs (o .reply .change) ≤ most → natAbs change ≤ most
+tried-most o z most h = subst (λ (n : ℤ). natAbs n ≤ most) (sym (o .told .accepted z)) h
+
+module _ {s : Settings} {p : Pictures} {d : Depths} {h : Held} {v : ℕ} {b : Block} {c : Candidate} {x : List ℕ} {number : ℕ} {change₀ change : ℤ} (o : TriedOut (GetPost s p d h v b c x) number change₀ change) (sound : Sound s p d (readHeld h)) (z : number ≡ 0) (one : OneDepth b) where
+  pub tried-within : natAbs change ≤ reachOf s d v b (filled b c x)
+  tried-within = tried-most o z _ (get-within s p d h v b c x (o .reply) (o .promised) sound (sym (o .told .number-is) ∙ z) one)
+
+  pub tried-held : natAbs change ≤ mostChange (heldLength s (isRight v) b d h (getD (filled b c x) 0 0))
+  tried-held = tried-most o z _ (get-held s p d h v b c x (o .reply) (o .promised) sound (sym (o .told .number-is) ∙ z) one)

@@ -3,6 +3,7 @@
 --     fill-ready, fill-leaves         OPEN and MOVE leave such a session
 --     either                          the number of some tests and a rest is that of the tests or the rest
 --     Done, by-number, done-reply ..  what is shown of a call in both kinds of run, and what it answers and leaves by the number
+--     sound-as-read                   such a session is sound as GET, SET and TAKE BACK read it
 --     get-done, set-done, ..          so of each
 use Prim.Native.Nat.{ℕ, _<_}
 use mathlib.Core.Path.{_≡_, refl, ap, sym, _∙_, subst}
@@ -201,7 +202,7 @@ module _ (r : Plain) (ok : Ready r) where
   sound : Sound S p d F
   sound = record { held = sym (fresh-total s _ p d); total = sym (freshTotal-total s _ p d) }
 
-  sound-as-read : Sound S p d (readHeld F)
+  pub sound-as-read : Sound S p d (readHeld F)
   sound-as-read = sound-read S p d (ok .depths) (ok .share) F sound
 
   -- ---- the numbers of GET and SET

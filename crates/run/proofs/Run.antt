@@ -2,6 +2,7 @@
 --     session-run          whatever an accepted OPEN left and each call of the list answered and left by its promise
 --     halted-as-opened     what a run leaves is what a fresh OPEN leaves, with the settings and reference of the last accepted MOVE
 --     halted-opens         and such an OPEN is accepted
+--     halted-sound         what a run leaves is sound as GET reads it
 --     halts                a run halted after any of its calls is a run
 use Prim.Native.Nat.{ℕ, zero, suc, _*_, _<_}
 use mathlib.Core.Path.{_≡_, refl, ap, sym, _∙_, subst}
@@ -11,16 +12,16 @@ use lib.ListN.{length, take}
 use Rattle.model.specs.declared.Settings.{Settings}
 use Rattle.model.specs.declared.Opened.{Opened}
 use Rattle.model.specs.Marks.{markBytes}
-use Rattle.model.specs.Planes.{Pictures, Depths, Held, State, area}
+use Rattle.model.specs.Planes.{Pictures, Depths, Held, State, area, readHeld}
 use Rattle.model.specs.Candidates.{filled}
 use Rattle.model.specs.Refusals.{numberOf, journalOk, roomOk, openNumber, savingThen}
-use Rattle.model.specs.Promises.{OpenPost}
+use Rattle.model.specs.Promises.{Sound, OpenPost}
 use Rattle.model.proofs.Refusals.{HeldOf, own-before, own-usual}
 use Rattle.run.specs.Run.{Call, Event, Run, leaves, Plain, plain, plainNumber, plainAccepted, plainNext, plainJournal, plainChange, plainReply, plainState, plainEvent, plainEvents, plainEnd, Kept, AllKept, Usual, AllUsual, RunPost, stateAfter}
 use Rattle.run.specs.Run.Call.{get, set, move}
 use Rattle.run.specs.Run.Run.{halted, got, wrote, moved}
 use Rattle.run.proofs.Steps.{Ready, ready-open}
-use Rattle.run.proofs.Calls.{fill-ready, fill-leaves, chosen, next-pictures, either, unless-either, move-usual, set-own, Done, event-same, done-reply, done-after, done-journal, done-ready, get-done, set-done, move-done, edit-kept, move-kept}
+use Rattle.run.proofs.Calls.{fill-ready, fill-leaves, chosen, next-pictures, either, unless-either, move-usual, set-own, Done, event-same, done-reply, done-after, done-journal, done-ready, sound-as-read, get-done, set-done, move-done, edit-kept, move-kept}
 
 -- the numbers of a call, by the record
 call-usual : (r : Plain) (k : Call) → Usual k (plainNumber r k)
@@ -91,6 +92,11 @@ module _ (s : Settings) (p : Pictures) (d : Depths) (h₀ h : Held) (j₀ j : Li
   -- the record at the run's end
   abbrev ends : Plain
   ends = plainEnd (plain s p d) cs
+
+  pub halted-sound : Sound (last .settings) (ends .pictures) (last .depths) (readHeld (last .held))
+  unfolding plainState
+  halted-sound =
+      subst (λ (x : State). Sound (x .settings) (ends .pictures) (x .depths) (readHeld (x .held))) (sym (from-first .0 .session)) (sound-as-read ends (from-first .1))
 
   -- A fresh OPEN that is passed what the record ends with is accepted where the held planes lent to it have their lengths and the journal a word.
   pub halted-opens :

@@ -3,8 +3,10 @@
 --     kept-run             and again after the caller has emptied the journal
 --     shared-as-opened     what such a run leaves is what a fresh OPEN leaves, with the settings and reference of the last accepted MOVE
 --     shared-opens         and such an OPEN is accepted
+--     shared-sound         what such a run leaves is sound as GET reads it
 --     shared-halts         such a run halted after any of its calls is one
 --     get-next             a GET leaves the plain record as it was
+--     ready-turn           what OPEN has tested holds with any SETs standing
 use Prim.Native.Nat.{ℕ, zero, suc, _*_, _<_}
 use mathlib.Core.Path.{_≡_, refl, ap, sym, _∙_, subst}
 use mathlib.Core.Bool.{Bool, cond}
@@ -20,12 +22,12 @@ use Rattle.model.specs.declared.Block.{Block}
 use Rattle.model.specs.declared.Candidate.{Candidate}
 use Rattle.model.specs.declared.Opened.{Opened}
 use Rattle.model.specs.Marks.{markBytes}
-use Rattle.model.specs.Planes.{Pictures, Depths, Held, State, area}
+use Rattle.model.specs.Planes.{Pictures, Depths, Held, State, area, readHeld}
 use Rattle.model.specs.Candidates.{filled}
 use Rattle.model.specs.Journals.{emptied}
 use Rattle.model.specs.Blocks.{written, changeOf}
 use Rattle.model.specs.Refusals.{numberOf, journalOk, roomOk, someRecord, openNumber, savingThen, takingThen}
-use Rattle.model.specs.Promises.{EightBit, OpenPost}
+use Rattle.model.specs.Promises.{Sound, EightBit, OpenPost}
 use Rattle.model.proofs.Choice.{bool-cases}
 use Rattle.model.proofs.Refusals.{HeldOf, unless-true, unless-rest, rest-passed, own-before, own-usual}
 use Rattle.run.specs.Run.{Event, leaves, Plain, plain, plainState, OfMove, stateAfter}
@@ -33,12 +35,12 @@ use Rattle.run.specs.Shared.{SharedCall, SharedRun, Standing, SharedPlai
 use Rattle.run.specs.Shared.SharedCall.{get, set, takeBack, move}
 use Rattle.run.specs.Shared.SharedRun.{halted, got, wrote, took, moved}
 use Rattle.run.proofs.Steps.{Ready, ready-open, ready-written}
-use Rattle.run.proofs.Calls.{fill-ready, fill-leaves, fill-words, chosen, next-pictures, either, unless-either, move-usual, set-own, Done, by-number, event-same, done-reply, done-as, get-done, set-done, take-done, move-done, edit-kept, move-kept}
+use Rattle.run.proofs.Calls.{fill-ready, fill-leaves, fill-words, chosen, next-pictures, either, unless-either, move-usual, set-own, Done, by-number, event-same, done-reply, done-as, sound-as-read, get-done, set-done, take-done, move-done, edit-kept, move-kept}
 use Rattle.run.proofs.Ledger.{Ledger, ledger-ok, taking-none, taking-some, ledger-opened, ledger-saved, ledger-taken, taken-restores, taken-inside}
 
 -- ---- the SETs standing
 
-ready-turn : (r : Plain) → Ready r → (ks : List Standing) → Ready (withStanding r ks)
+pub ready-turn : (r : Plain) → Ready r → (ks : List Standing) → Ready (withStanding r ks)
 unfolding inTurn
 ready-turn r ok [] = ok
 ready-turn r ok (k ∷ ks) = ready-written (withStanding r ks) (ready-turn r ok ks) (k .view) (k .block) (k .depths)
@@ -304,6 +306,11 @@ module _ (s : Settings) (p : Pictures) (d : Depths) (h₀ h : Held) (j₀ j : Li
   -- the record at the run's end
   abbrev ends : SharedPlain
   ends = sharedEnd (opened (plain s p d) j₀) cs
+
+  pub shared-sound : Sound (last .settings) (ends .start .pictures) (last .depths) (readHeld (last .held))
+  unfolding plainState
+  shared-sound =
+      subst (λ (x : State). Sound (x .settings) (ends .start .pictures) (x .depths) (readHeld (x .held))) (sym (from-first .state)) (sound-as-read (standsAs ends) (ready-now (from-first .between)))
 
   -- A caller that empties the journal after some calls, as OPEN does, has it all again: the SETs standing then are those after that, over the depths of then.
   pub kept-run :

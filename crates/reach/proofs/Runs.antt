@@ -1,0 +1,111 @@
+-- The bound in runs: of document 01's, and of those with one journal.
+--     ready-next, ready-shared          every record of a run has passed the tests of OPEN, or of the last accepted MOVE
+--     session-within, shared-within     so each accepted GET and SET of one depth sample, at its own point of the run, is within the bound
+--     kept-within                       and again after the caller has emptied the journal
+use Prim.Native.Nat.{ℕ, _≤_}
+use mathlib.Core.Path.{_≡_, sym, subst}
+use mathlib.Core.List.{List, [], _∷_}
+use lib.ListN.{length}
+use lib.IntN.{natAbs}
+use borrow.Author.Tests.{eq-eqb}
+use Rattle.model.specs.declared.Settings.{Settings}
+use Rattle.model.specs.declared.Block.{Block}
+use Rattle.model.specs.declared.Candidate.{Candidate}
+use Rattle.model.specs.declared.Opened.{Opened}
+use Rattle.model.specs.Planes.{Pictures, Depths, Held, State}
+use Rattle.model.specs.Candidates.{filled}
+use Rattle.model.specs.Blocks.{changeOf}
+use Rattle.model.specs.Journals.{emptied}
+use Rattle.model.specs.Refusals.{numberOf, ownThen, savingThen}
+use Rattle.model.specs.Promises.{OpenPost}
+use Rattle.run.specs.Run.{Call, Event, Run, leaves, Plain, plain, plainNumber, plainAccepted, plainNext, plainAnswer, plainChange, plainReply, plainEvent, plainEvents}
+use Rattle.run.specs.Run.Call.{get, set, move}
+use Rattle.run.specs.Shared.{SharedCall, SharedRun, SharedPlain, opened, standsAs, sharedNumber, accepted, sharedNext, sharedChange, sharedReply, sharedEvent, sharedEvents, sharedEnd}
+use Rattle.run.specs.Shared.SharedCall.{get as shared-get, set as shared-set, takeBack, move as shared-move}
+use Rattle.run.proofs.Steps.{Ready, ready-written, ready-moved}
+use Rattle.run.proofs.Calls.{fill-ready, chosen, set-own}
+use Rattle.run.proofs.Run.{session-run}
+use Rattle.run.proofs.Shared.{ready-turn, shared-run, kept-run}
+use Rattle.reach.specs.Reach.{OneDepth, reachOf}
+use Rattle.reach.specs.Runs.{CallWithin, AllWithin, SharedWithin, AllSharedWithin}
+use Rattle.reach.proofs.Change.{change-within}
+
+-- a call whose number by the record is n, the numbers of a GET or SET with some rest of its list
+answer-within :
+    (r : Plain) → Ready r → (v : ℕ) (b : Block) (c : Candidate) (x : List ℕ) (rest : ℕ) →
+    let n : ℕ = ownThen (r .settings) v b c (length x) rest in
+    n ≡ 0 → OneDepth b → natAbs (plainAnswer n (changeOf (r .settings) (r .pictures) (r .depths) v b (filled b c x)) .change) ≤ reachOf (r .settings) (r .depths) v b (filled b c x)
+unfolding plainAnswer
+answer-within r ok v b c x rest z one =
+    rw (eq-eqb _ 0 z)
+    (change-within (r .settings) (r .pictures) (r .depths) v b (filled b c x) (ok .depths) (ok .share) (set-own (r .settings) v b c (length x) rest z .block) one)
+
+-- ---- document 01's runs
+
+call-within : (r : Plain) → Ready r → (k : Call) → CallWithin r k (plainEvent r k)
+unfolding plainReply plainAnswer plainNumber plainChange
+call-within r ok (get v b c x) = answer-within r ok v b c x 0
+call-within r ok (set v b c x j) = answer-within r ok v b c x (savingThen (r .settings) b j 0)
+call-within r ok (move to reference j) = tt
+
+ready-next : (r : Plain) → Ready r → (k : Call) → Ready (plainNext r k)
+unfolding plainNext plainAccepted plainNumber
+ready-next r ok (get v b c x) = chosen Ready (plainNumber r (get v b c x)) r r (λ z. ok) (λ z. ok)
+ready-next r ok (set v b c x j) = chosen Ready (plainNumber r (set v b c x j)) _ r (λ z. ready-written r ok v b (filled b c x)) (λ z. ok)
+ready-next r ok (move to reference j) = chosen Ready (plainNumber r (move to reference j)) _ r (λ z. ready-moved r ok to reference j z) (λ z. ok)
+
+plain-within : (r : Plain) → Ready r → (ks : List Call) → AllWithin r ks (plainEvents r ks)
+unfolding AllWithin plainEvents
+plain-within r ok [] = tt
+plain-within r ok (k ∷ ks) = (call-within r ok k, plain-within (plainNext r k) (ready-next r ok k) ks)
+
+-- ---- runs with one journal
+
+shared-call-within : (r : SharedPlain) → Ready (r .start) → (k : SharedCall) → SharedWithin r k (sharedEvent r k)
+unfolding sharedReply plainAnswer sharedNumber sharedChange
+shared-call-within r ok (shared-get v b c x) = answer-within (standsAs r) (ready-turn (r .start) ok (r .standing)) v b c x 0
+shared-call-within r ok (shared-set v b c x) = answer-within (standsAs r) (ready-turn (r .start) ok (r .standing)) v b c x (savingThen (r .start .settings) b (r .journal) 0)
+shared-call-within r ok takeBack = tt
+shared-call-within r ok (shared-move to reference) = tt
+
+ready-shared : (r : SharedPlain) → Ready (r .start) → (k : SharedCall) → Ready (sharedNext r k .start)
+unfolding sharedNext accepted sharedNumber
+ready-shared r ok (shared-get v b c x) = chosen (λ (y : SharedPlain). Ready (y .start)) (sharedNumber r (shared-get v b c x)) _ r (λ z. ok) (λ z. ok)
+ready-shared r ok (shared-set v b c x) = chosen (λ (y : SharedPlain). Ready (y .start)) (sharedNumber r (shared-set v b c x)) _ r (λ z. ok) (λ z. ok)
+ready-shared r ok takeBack = chosen (λ (y : SharedPlain). Ready (y .start)) (sharedNumber r takeBack) _ r (λ z. ok) (λ z. ok)
+ready-shared r ok (shared-move to reference) =
+    chosen (λ (y : SharedPlain). Ready (y .start)) (sharedNumber r (shared-move to reference)) _ r
+    (λ z. ready-moved (standsAs r) (ready-turn (r .start) ok (r .standing)) to reference (r .journal) z) (λ z. ok)
+
+record-within : (r : SharedPlain) → Ready (r .start) → (ks : List SharedCall) → AllSharedWithin r ks (sharedEvents r ks)
+unfolding AllSharedWithin sharedEvents
+record-within r ok [] = tt
+record-within r ok (k ∷ ks) = (shared-call-within r ok k, record-within (sharedNext r k) (ready-shared r ok k) ks)
+
+ready-end : (r : SharedPlain) → Ready (r .start) → (ks : List SharedCall) → Ready (sharedEnd r ks .start)
+unfolding sharedEnd
+ready-end r ok [] = ok
+ready-end r ok (k ∷ ks) = ready-end (sharedNext r k) (ready-shared r ok k) ks
+
+-- ---- after an accepted OPEN
+
+module _ (s : Settings) (p : Pictures) (d : Depths) (h₀ h : Held) (j₀ j : List ℕ) (o : Opened) (post : OpenPost s p d h₀ h j₀ j o) (yes : numberOf (o .refusal) ≡ 0) where
+  ready-first : Ready (plain s p d)
+  ready-first = fill-ready s s p d h₀ h j₀ j o post yes
+
+  pub session-within : {cs : List Call} {es : List Event} {last : State} → Run p (leaves (o .settings) d h) cs es last → AllWithin (plain s p d) cs es
+  session-within {cs = cs} run =
+      subst (AllWithin (plain s p d) cs) (sym (session-run s p d h₀ h j₀ j o post yes run .events)) (plain-within (plain s p d) ready-first cs)
+
+  pub shared-within : {cs : List SharedCall} {es : List Event} {last : State} {end : List ℕ} → SharedRun p (leaves (o .settings) d h) j cs es last end → AllSharedWithin (opened (plain s p d) j₀) cs es
+  shared-within {cs = cs} run =
+      subst (AllSharedWithin (opened (plain s p d) j₀) cs) (sym (shared-run s p d h₀ h j₀ j o post yes run .events)) (record-within (opened (plain s p d) j₀) ready-first cs)
+
+  pub kept-within :
+      {cs ds : List SharedCall} {es fs : List Event} {last st : State} {end k : List ℕ} → SharedRun p (leaves (o .settings) d h) j cs es last end →
+      let ends : SharedPlain = sharedEnd (opened (plain s p d) j₀) cs in
+      SharedRun (ends .start .pictures) last (emptied end) ds fs st k → AllSharedWithin (opened (standsAs ends) end) ds fs
+  kept-within {cs = cs} {ds = ds} {end = end} run further =
+      let ends : SharedPlain = sharedEnd (opened (plain s p d) j₀) cs in
+      subst (AllSharedWithin (opened (standsAs ends) end) ds) (sym (kept-run s p d h₀ h j₀ j o post yes run further .events))
+      (record-within (opened (standsAs ends) end) (ready-turn (ends .start) (ready-end (opened (plain s p d) j₀) ready-first cs) (ends .standing)) ds)

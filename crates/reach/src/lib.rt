@@ -1,0 +1,1 @@
+// How far one depth sample can move the total: no code.
