@@ -1,7 +1,7 @@
 /*
  * The small session of document 01 (cases k, l and m), reports, refused calls, drawn rows (case g and card 7's), samples of ten
- * bits and above, candidates of every kind, SETs taken back, and a seat that moves, from C. Its output is compared with
- * session.out. It compiles as C99 and as C++.
+ * bits and above, candidates of every kind, SETs taken back, a seat that moves, and how far one depth can move the total, from C.
+ * Its output is compared with session.out. It compiles as C99 and as C++.
  */
 #include <stddef.h>
 #include <stdio.h>
@@ -522,6 +522,84 @@ static void seats(luph_settings *s, const luph_pictures *p, const luph_planes *q
     print_check(s, p, q);
 }
 
+/* L of a depth d in column x of the row, from what is held. */
+static int length(const luph_settings *s, const luph_planes *q, uint32_t view, int x, uint8_t d) {
+    const uint16_t *table = view == 0 ? s->left : s->right;
+    const uint8_t *row = q->depth[view].data;
+    const int w = (int)s->w, c = view == 0 ? x : w - 1 - x;
+    const int before = view == 0 ? x - 1 : x + 1, next = view == 0 ? x + 1 : x - 1;
+    int least = 4 * c - table[row[x]];
+    if (4 * c - table[d] < least) least = 4 * c - table[d];
+    if (c > 0 && 4 * (c - 1) - table[row[before]] < least) least = 4 * (c - 1) - table[row[before]];
+    return (c < w - 1 ? q->limit[view].data[next] : 4 * w) - (least > 1 ? least - 1 : 0);
+}
+
+/* How far that depth can move the total. */
+static int64_t bound(int l) {
+    return l > 0 ? 1046529 * (int64_t)((l + 3) / 4) : 0;
+}
+
+static void print_bound(const luph_settings *s, const luph_pictures *p, const luph_planes *q, uint32_t view, int x, uint8_t d) {
+    const luph_block b = {(uint32_t)x, 0, 1, 1};
+    const int l = length(s, q, view, x, d);
+    int64_t change = 999;
+    const int number = luph_get(s, p, q, view, b, luph_flat(d), &change);
+    printf("get view %lu column %d depth %d: %d, L %d, at most %ld, change %ld\n", (unsigned long)view, x, d, number, l, (long)bound(l),
+        (long)change);
+}
+
+/* Every depth in every column of both views: how many GETs are within the bound, and how many reach it. */
+static void print_within(const luph_settings *s, const luph_pictures *p, const luph_planes *q) {
+    int gets = 0, within = 0, reach = 0;
+    for (int i = 0; i < 2 * W * 256; i++) {
+        const uint32_t view = (uint32_t)(i / (W * 256));
+        const luph_block b = {(uint32_t)(i / 256 % W), 0, 1, 1};
+        const uint8_t d = (uint8_t)(i % 256);
+        const int64_t most = bound(length(s, q, view, (int)b.column, d));
+        int64_t change;
+        if (luph_get(s, p, q, view, b, luph_flat(d), &change) != LUPH_ACCEPTED) continue;
+        gets += 1;
+        within += -most <= change && change <= most;
+        reach += most > 0 && (change == most || change == -most);
+    }
+    printf("of %d gets %d are within the bound, %d reach it\n", gets, within, reach);
+}
+
+/*
+ * A row of black and white in the left view, and the same from right to left in the right view. Depth 7 in column 2 of the left
+ * view, and in column 1 of the right view, reaches the bound. In the left view column 2 is then hidden behind a nearer column 3: L is
+ * below 0, and nothing changes.
+ */
+static void bounds(luph_settings *s, const luph_planes *q) {
+    static const uint16_t white_first[W] = {1023, 1023, 0, 0}, white_last[W] = {0, 0, 1023, 1023}, black[W] = {0, 0, 0, 0};
+    static const uint8_t near_last[W] = {0, 0, 3, 7}, near_first[W] = {7, 3, 0, 0}, hidden[W] = {0, 0, 0, 12};
+    luph_pictures p;
+    memset(depth, 0, sizeof depth);
+    memcpy(depth[0], near_last, W);
+    s->share = 0;
+    s->widest_gap = 8;
+    p.texture[0] = p.reference = picture(white_first, W);
+    p.texture[1] = picture(black, W);
+    print_open(s, &p, q);
+    print_bound(s, &p, q, 0, 2, 7);
+    print_bound(s, &p, q, 0, 3, 11);
+    print_within(s, &p, q);
+    print_set(s, &p, q, 2, 7);
+    print_bound(s, &p, q, 0, 2, 3);
+    memcpy(depth[0], hidden, W);
+    print_open(s, &p, q);
+    print_bound(s, &p, q, 0, 2, 5);
+    memset(depth, 0, sizeof depth);
+    memcpy(depth[1], near_first, W);
+    s->share = 64;
+    p.texture[0] = picture(black, W);
+    p.texture[1] = p.reference = picture(white_last, W);
+    print_open(s, &p, q);
+    print_bound(s, &p, q, 1, 1, 7);
+    print_bound(s, &p, q, 1, 0, 11);
+    print_within(s, &p, q);
+}
+
 int main(void) {
     luph_settings s;
     luph_pictures p;
@@ -544,5 +622,6 @@ int main(void) {
     candidates(s);
     journals(&s, &p, &q);
     seats(&s, &p, &q);
+    bounds(&s, &q);
     return 0;
 }

@@ -166,7 +166,7 @@ typedef struct luph_planes {
     luph_out front[2];      /* the depth that is seen at each drawn position */
     luph_out marks[2];      /* each view's hole marks, packed; 1 is a hole */
     luph_samples combined;  /* the picture combined from both views */
-    luph_limits limit[2];   /* each view's limits */
+    luph_limits limit[2];   /* each view's limits: the least place of the column and of all that the view reads after it */
 } luph_planes;
 
 /* A block of a depth plane. */
@@ -491,6 +491,27 @@ static inline int luph_move(luph_settings *s, const luph_pictures *p, const luph
  * block's depths, or the values of one value, a line or a mask at the positions that they fill. Reads samples above
  * 1,023, of the pictures and of the planes, as 1,023. Writes no plane. Refuses 1, 2, 3, 4, 20, 6, 5, then by the
  * candidate's kind 7 (a full block, or an unknown kind), 14 (a line) or 15 (a mask), then 8.
+ *
+ * How far one depth can move the total is known before the call, whatever the pictures show: rate controllers can plan by it.
+ * Take a block of one column x and one row y, in a session that is kept as above. A caller needs the view's table and, from
+ * the view's planes, three entries: the depth at entry i = y * w + x, the depth of the column before and the limit of the
+ * next column. The left view reads a row from left to right. The right view reads it from right to left: there the column
+ * before is the one at the right, and the next column is the one at the left.
+ *
+ *     left view:   c = x            before = i - 1   next = i + 1
+ *     right view:  c = w - 1 - x    before = i + 1   next = i - 1
+ *
+ * In signed numbers, with d for the depth that the candidate gives the block:
+ *
+ *     least = the least of  4 * c - table[depth[i]],
+ *                           4 * c - table[d],
+ *                           and, unless c is 0,  4 * (c - 1) - table[depth[before]]
+ *     low   = max(least - 1, 0)
+ *     high  = limit[next],  or 4 * w where c is w - 1
+ *     L     = high - low
+ *     bound = 1046529 * ((L + 3) / 4)
+ *
+ * Of an accepted call: where L is 0 or less, *change is 0; where L is above 0, *change is from -bound to bound.
  */
 static inline int luph_get(const luph_settings *s, const luph_pictures *p, const luph_planes *q, uint32_t view, luph_block b,
     luph_candidate candidate, int64_t *change) {
@@ -516,7 +537,7 @@ static inline int luph_get(const luph_settings *s, const luph_pictures *p, const
  * 13: the journal has no words, or somewhere in the chain of its records an index is not below the one before it, a
  * record reaches past the end of the journal, its block is empty or reaches past an edge of the picture, its view is
  * above 1 or one of its depths above 255. 11: the record has no room. Time is taken for every word of the chain:
- * luph_keep a journal whose SETs need not be taken back.
+ * luph_keep a journal whose SETs need not be taken back. A SET of one depth has the bound that luph_get names.
  */
 static inline int luph_set(luph_settings *s, const luph_pictures *p, const luph_planes *q, luph_journal journal, uint32_t view,
     luph_block b, luph_candidate candidate, int64_t *change) {

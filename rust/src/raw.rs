@@ -108,6 +108,10 @@ pub fn move_seat(
 
 /// GET: how the total would change if the block of the view's depths were the candidate. Nothing is written.
 ///
+/// Where the call is passed what [`lent`](crate::lent) asks for, a block of one column and one row moves the total by no more than
+/// the bound in the text of [`Session::get`](crate::Session::get). The bound follows from the view's table, the depth that stands
+/// there, the candidate's depth, the depth of the column before and the limit of the next column.
+///
 /// Samples above 1,023, of the pictures and of the planes, are read as 1,023. View 0 is left, view 1 right. Refuses 1, 2, 3, 4,
 /// 20, 6, 5, then by the candidate's kind 7 (a full block), 14 (a line) or 15 (a mask), then 8.
 #[rustfmt::skip]

@@ -115,6 +115,73 @@ impl Session {
 
     /// How the total would change if the block of the view's depths were the candidate. The session stays as it is.
     ///
+    /// How far one depth can move the total is known before the call, whatever the pictures show: rate controllers can plan by it.
+    /// Take a block of one column x and one row y. A caller needs the view's table and, from the view's planes, three entries: the
+    /// depth at entry i = y × w + x, the depth of the column before and the limit of the next column. The left view reads a row
+    /// from left to right. The right view reads it from right to left: there the column before is the one at the right, and the
+    /// next column is the one at the left.
+    ///
+    /// ```text
+    /// left view:   c = x            before = i - 1   next = i + 1
+    /// right view:  c = w - 1 - x    before = i + 1   next = i - 1
+    /// ```
+    ///
+    /// In signed numbers, with d for the depth that the candidate gives the block:
+    ///
+    /// ```text
+    /// least = the least of  4 * c - table[depths[i]],
+    ///                       4 * c - table[d],
+    ///                       and, unless c is 0,  4 * (c - 1) - table[depths[before]]
+    /// low   = max(least - 1, 0)
+    /// high  = limits[next],  or 4 * w where c is w - 1
+    /// L     = high - low
+    /// bound = 1046529 * ((L + 3) / 4)
+    /// ```
+    ///
+    /// Where L is 0 or less, the answer is 0. Where L is above 0, the answer is from -bound to bound.
+    ///
+    /// ```
+    /// use luphwezane::{Block, Candidate, Pictures, Session, Settings, View};
+    ///
+    /// fn bound(session: &Session, view: View, x: usize, y: usize, d: u8) -> i64 {
+    ///     let (settings, planes, v) = (session.settings(), session.planes(), view as usize);
+    ///     let (w, table) = (settings.w as usize, [&settings.left, &settings.right][v]);
+    ///     let (depths, limits) = (&planes.depths[v][y * w..][..w], &planes.limits[v][y * w..][..w]);
+    ///     let place = |c: usize, d: u8| 4 * c as i64 - i64::from(table[usize::from(d)]);
+    ///     let (c, before, next) = match view {
+    ///         View::Left => (x, x.wrapping_sub(1), x + 1),
+    ///         View::Right => (w - 1 - x, x + 1, x.wrapping_sub(1)),
+    ///     };
+    ///     let mut least = place(c, depths[x]).min(place(c, d));
+    ///     if c > 0 {
+    ///         least = least.min(place(c - 1, depths[before]));
+    ///     }
+    ///     let high = if c < w - 1 { i64::from(limits[next]) } else { 4 * w as i64 };
+    ///     let length = high - (least - 1).max(0);
+    ///     if length > 0 { 1_046_529 * ((length + 3) / 4) } else { 0 }
+    /// }
+    ///
+    /// let table = std::array::from_fn(|d| d as u16);
+    /// let settings =
+    ///     Settings { w: 4, h: 1, left: table, right: table, share: 0, tolerance: 255, widest_gap: 8, torn_distance: 1, total: 0 };
+    /// let row = [1023, 1023, 0, 0];
+    /// let pictures = Pictures { textures: [&row, &row], reference: &row };
+    /// let session = Session::open(&settings, &pictures, [&[0, 0, 3, 7], &[0; 4]])?;
+    /// for (view, x) in [View::Left, View::Right].into_iter().flat_map(|view| (0..4).map(move |x| (view, x))) {
+    ///     let block = Block { column: x, row: 0, width: 1, height: 1 };
+    ///     for d in 0..=255 {
+    ///         let change = session.get(view, block, Candidate::Flat(d))?;
+    ///         assert!(change.abs() <= bound(&session, view, x as usize, 0, d));
+    ///     }
+    /// }
+    ///
+    /// // Depth 7 in column 2 of the left view reaches the bound: two positions turn from white to black.
+    /// let block = Block { column: 2, row: 0, width: 1, height: 1 };
+    /// assert_eq!(bound(&session, View::Left, 2, 0, 7), 2 * 1_046_529);
+    /// assert_eq!(session.get(View::Left, block, Candidate::Flat(7))?, 2 * 1_046_529);
+    /// # Ok::<(), luphwezane::Refusal>(())
+    /// ```
+    ///
     /// # Errors
     /// Refuses [`Bounds`](Refusal::Bounds), then by the candidate's kind [`Candidate`](Refusal::Candidate) (a full block),
     /// [`Line`](Refusal::Line) or [`Mask`](Refusal::Mask), and nothing else.
@@ -124,7 +191,8 @@ impl Session {
         lent::get(&self.settings, &self.pictures(), &self.planes(), view as u32, block, candidate)
     }
 
-    /// Writes the candidate into the block of the view's depths and answers how the total changed.
+    /// Writes the candidate into the block of the view's depths and answers how the total changed. A SET of one depth has the bound
+    /// that [`get`](Session::get) names.
     ///
     /// The depths that were there are saved for [`take_back`](Session::take_back). Every call examines all that is saved, so
     /// that a long list of SETs becomes slow: call [`keep`](Session::keep) when they need not be taken back.

@@ -86,7 +86,7 @@ pub struct Planes<'a> {
     pub samples: [&'a [u16]; 2],
     /// The depth that is seen at each drawn position.
     pub fronts: [&'a [u8]; 2],
-    /// The limits, in quarter samples.
+    /// The limits, in quarter samples: the least place of the column and of all that the view reads after it.
     pub limits: [&'a [i16]; 2],
     /// The hole marks, packed, (w + 7) / 8 bytes a row: column x in bit x % 8 of byte x / 8, spare bits zero.
     pub marks: [&'a [u8]; 2],
@@ -103,7 +103,7 @@ pub struct PlanesMut<'a> {
     pub samples: [&'a mut [u16]; 2],
     /// The depth that is seen at each drawn position.
     pub fronts: [&'a mut [u8]; 2],
-    /// The limits, in quarter samples.
+    /// The limits, in quarter samples: the least place of the column and of all that the view reads after it.
     pub limits: [&'a mut [i16]; 2],
     /// The hole marks, packed.
     pub marks: [&'a mut [u8]; 2],

@@ -51,6 +51,15 @@ fn middle_of_the_pole(samples: &[u16]) -> usize {
     100 * columns.iter().sum::<usize>() / columns.len()
 }
 
+/// The numbers of the line that says how near a depth of a view comes to the bound: row, depths within the bound, depths tried, the
+/// nearest one and its column, its change, its bound and L.
+fn nearest(numbers: &[String], view: &str) -> [i64; 8] {
+    let line = numbers.iter().find(|line| line.starts_with(&format!("bound   {view}, "))).expect("it says how near a depth comes");
+    let text = line.replace(',', "");
+    let found: Vec<i64> = text.split([' ', ':', ';']).filter_map(|word| word.parse().ok()).collect();
+    found.try_into().unwrap_or_else(|_| panic!("{line}"))
+}
+
 /// The arguments for a run from files of a folder, with pictures written to another.
 fn run_again<'a>(files: &'a [PathBuf; 5], out: &'a Path) -> Vec<&'a str> {
     ["--out", text(out)].into_iter().chain(files.iter().map(|file| text(file))).collect()
@@ -107,6 +116,19 @@ fn made_scene_and_the_same_from_files() {
     }
     let (_, samples) = picture(&made.join("left.pgm"), 320, 192);
     assert!((0..4).all(|bits| samples.iter().any(|sample| sample % 4 == bits)), "the scene has ten bits");
+}
+
+/// In the middle row every depth is tried in every column, in both views; the nearest one changes at least a tenth of its bound.
+#[test]
+fn one_depth_stays_within_its_bound() {
+    let numbers = numbers(&demo(&["--out", text(&folder("bound"))]));
+    for view in ["left", "right"] {
+        let [row, within, trials, depth, column, change, bound, length] = nearest(&numbers, view);
+        assert_eq!((row, within, trials), (96, 320 * 256, 320 * 256));
+        assert!((0..256).contains(&depth) && (0..320).contains(&column));
+        assert_eq!(bound, 1_046_529 * ((length + 3) / 4));
+        assert!(bound > 0 && (bound / 10..=bound).contains(&change.abs()), "{view}: {change} of {bound}");
+    }
 }
 
 /// In the middle the seat shows what the search ended with, at a camera nearly that camera's picture; and from seat to seat a near

@@ -95,13 +95,17 @@ impl Run {
     }
 
     /// GET by both, and through the library's symbol: each answers the same for the candidate and for the full block that it
-    /// fills.
+    /// fills. One column of one row changes the total by no more than card 4 says.
     fn get(&self, view: View, block: Block, tried: &Tried) -> i64 {
         let candidate = tried.candidate();
         let depths = paper::written(&self.settings, self.record(), view as usize, block, candidate);
         let change = self.drawing(&depths).total as i64 - self.fresh.total as i64;
         let (pictures, planes, full) = (self.scene.pictures(), self.planes.shared(), paper::filled(block, candidate));
         assert_eq!(boundary::get(&self.settings, &pictures, &planes, view as u32, block, tried), Ok(change));
+        if (block.width, block.height) == (1, 1) {
+            let reach = paper::Reach::in_plane(&self.settings, view as usize, &self.record[view as usize], block, full[0]);
+            assert!(change.unsigned_abs() <= reach.most_change(), "{change} is beyond the bound of {reach:?}");
+        }
         for candidate in [candidate, Candidate::Full(&full)] {
             assert_eq!(lent::get(&self.settings, &pictures, &planes, view as u32, block, candidate), Ok(change));
             assert_eq!(self.session.get(view, block, candidate), Ok(change));

@@ -1,5 +1,5 @@
 //! The independent renderer: document 01 said again as plainly as it can be, each position drawn from its owner, the journal of
-//! card 3, and the seat of card 11.
+//! card 3, the bound of card 4, and the seat of card 11.
 //!
 //! It shares no code with the library and holds nothing between calls. It is slow on purpose: every question is answered
 //! by a fresh drawing of the whole picture.
@@ -634,4 +634,49 @@ pub fn span(settings: &Settings, view: usize, block: Block, old: &[u8], new: &[u
         span.limits.reverse();
     }
     span
+}
+
+/// The span of an edit of one column of one row.
+#[derive(Clone, Copy, Debug, PartialEq, Eq)]
+pub struct Reach {
+    pub low: i32,
+    pub high: i32,
+}
+
+impl Reach {
+    /// Column c of a row as the view reads it gets the depth `new`. Low is the least of the old and the new place of c and, if
+    /// c > 0, the place of c − 1, and then a quarter less (card 7). High is the limit of c + 1, and 4 × w for the last column.
+    pub fn of(row: &LeftRow, c: usize, new: u8) -> Reach {
+        let mut low = row.place(c).min(4 * c as i32 - i32::from(row.table[usize::from(new)]));
+        if c > 0 {
+            low = low.min(row.place(c - 1));
+        }
+        let last = c == row.w() - 1;
+        Reach { low: low - 1, high: if last { 4 * row.w() as i32 } else { row.limit(c + 1) } }
+    }
+
+    /// The same in a view's depth plane, for a block of one column and one row; the right view's row is reversed.
+    pub fn in_plane(settings: &Settings, view: usize, depths: &[u8], block: Block, new: u8) -> Reach {
+        assert_eq!((block.width, block.height), (1, 1));
+        let (w, column) = (settings.w as usize, block.column as usize);
+        let row = &depths[block.row as usize * w..][..w];
+        match view {
+            0 => Reach::of(&LeftRow::new(settings, view, &[], row), column, new),
+            _ => Reach::of(&LeftRow::new(settings, view, &[], &reversed(row)), w - 1 - column, new),
+        }
+    }
+
+    /// L is high minus low, with low taken as 0 if it is below (card 4).
+    pub fn length(self) -> i32 {
+        self.high - self.low.max(0)
+    }
+
+    /// How far the edit can move the total: 0 if L is 0 or less, else 1,046,529 × ((L + 3) div 4).
+    #[allow(clippy::manual_div_ceil)]
+    pub fn most_change(self) -> u64 {
+        match self.length() {
+            length if length <= 0 => 0,
+            length => WORST * ((length as u64 + 3) / 4),
+        }
+    }
 }

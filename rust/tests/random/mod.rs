@@ -79,6 +79,11 @@ pub fn from_environment(name: &str, otherwise: u64) -> u64 {
     }
 }
 
+/// A line of the test's log.
+pub fn say(name: &str, text: &str) {
+    writeln!(std::io::stderr(), "{name}: {text}").expect("standard error takes a line");
+}
+
 /// Runs numbered sessions of one seed and, where one fails, says how to repeat it alone.
 ///
 /// LUPH_SEED, LUPH_FIRST and LUPH_SESSIONS choose the seed, the first session and how many there are.
@@ -86,7 +91,7 @@ pub fn sessions(name: &str, otherwise: u64, session: impl Fn(&mut Random, u64)) 
     let seed = from_environment("LUPH_SEED", 1);
     let first = from_environment("LUPH_FIRST", 0);
     let count = from_environment("LUPH_SESSIONS", otherwise);
-    let say = |text: String| writeln!(std::io::stderr(), "{name}: {text}").expect("standard error takes a line");
+    let say = |text: String| say(name, &text);
     say(format!("LUPH_SEED={seed} LUPH_FIRST={first} LUPH_SESSIONS={count}"));
     for number in first..first + count {
         let run = || session(&mut Random::new(seed, number), number);

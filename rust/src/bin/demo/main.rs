@@ -1,10 +1,11 @@
 //! A first session to look at. An encoder-like search improves two coarse depth maps: for each unit it tries a few hundred
-//! candidates with GET, sets its quarters one by one, and takes them back where one candidate for the whole unit is better. Then
-//! the seat moves from the left camera to the right one, over the depths that the search found. It prints two tables and writes
-//! pictures.
+//! candidates with GET, sets its quarters one by one, and takes them back where one candidate for the whole unit is better. In
+//! one row every depth is tried in every column, beside the bound of its change. Then the seat moves from the left camera to the
+//! right one, over the depths that the search found. It prints two tables and writes pictures.
 
 mod encoder;
 mod pgm;
+mod reach;
 mod scene;
 
 use luphwezane::{Pictures, Report, Session, Settings, View, GREATEST_SAMPLE};
@@ -174,7 +175,22 @@ fn search(session: &mut Session, out: &Path, largest: u16) -> Result<(), String>
     println!();
     print_check(session)?;
     println!("holes   left {}, right {}", thousands(session.holes(View::Left) as i64), thousands(session.holes(View::Right) as i64));
-    Ok(())
+    View::BOTH.into_iter().try_for_each(|view| print_bound(session, view))
+}
+
+/// Every depth in every column of the middle row, beside the bound of its change. An error where one goes past it.
+fn print_bound(session: &Session, view: View) -> Result<(), String> {
+    let (name, row) = (if view == View::Left { "left" } else { "right" }, session.settings().h / 2);
+    let reach::Row { trials, within, nearest } = reach::Row::tried(session, view, row).map_err(|refusal| refusal.to_string())?;
+    let reach::Trial { column, depth, length, bound, change } = nearest;
+    let [all, kept, change, bound] = [trials as i64, within as i64, change, bound].map(thousands);
+    let nearest = format!("nearest is depth {depth} in column {column}: change {change}, bound {bound}, L {length}");
+    println!("bound   {name}, row {row}: kept by {kept} of {all} depths tried; {nearest}");
+    if within == trials {
+        Ok(())
+    } else {
+        Err("a depth changes the total by more than its bound".into())
+    }
 }
 
 /// Moves from seat to seat over the depths as they stand, and prints the table of it.
