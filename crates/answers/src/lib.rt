@@ -39,10 +39,10 @@ pub fn edited(answer: Edited, change: &mut i64, total: &mut u64) -> u32
     let refusal = answer.refusal;
     let number = model::number(refusal);
     if number == 0 {
-        let next = answer.settings;
-        let found = answer.change;
-        *change = found;
-        *total = next.total;
+        let after = answer.settings;
+        let moved = answer.change;
+        *change = moved;
+        *total = after.total;
     }
     number
 }

@@ -145,45 +145,46 @@ module _ {p : Pictures} {st : State} {h : Held} {to : Settings} {reference j k :
 -- ---- the theorems
 
 module _ {s : Settings} {p : Pictures} {d : Depths} {h₀ h : Held} {j₀ j : List ℕ} {number total₀ total : ℕ} (o : OpenedOut (OpenPost s p d h₀ h j₀ j) number total₀ total) (accepted : number ≡ 0) where
+  yes : numberOf (o .reply .refusal) ≡ 0
+  yes = sym (o .told .number-is) ∙ accepted
+
+  answered : o .reply .settings ≡ latest number s s total
+  answered = filled-settings o (o .promised)
+
+  -- the run that the caller made, from the settings of the reply
+  as-run : {cs : List Call} {es : List Event} {last : State} → Run p (leaves (latest number s s total) d h) cs es last → Run p (leaves (o .reply .settings) d h) cs es last
+  as-run {cs} {es} {last} = subst (λ (n : Settings). Run p (leaves n d h) cs es last) (sym answered)
+
+  as-shared : {cs : List SharedCall} {es : List Event} {last : State} {end : List ℕ} → SharedRun p (leaves (latest number s s total) d h) j cs es last end → SharedRun p (leaves (o .reply .settings) d h) j cs es last end
+  as-shared {cs} {es} {last} {end} = subst (λ (n : Settings). SharedRun p (leaves n d h) j cs es last end) (sym answered)
+
   pub opened-run :
       {cs : List Call} {es : List Event} {last : State} → Run p (leaves (latest number s s total) d h) cs es last →
       RunPost (plain s p d) (leaves (latest number s s total) d h) cs es last
   opened-run {cs} {es} {last} run =
-      let e = filled-settings o (o .promised) in
-      subst (λ (n : Settings). RunPost (plain s p d) (leaves n d h) cs es last) e
-      (session-run s p d h₀ h j₀ j (o .reply) (o .promised) (sym (o .told .number-is) ∙ accepted) (subst (λ (n : Settings). Run p (leaves n d h) cs es last) (sym e) run))
+      subst (λ (n : Settings). RunPost (plain s p d) (leaves n d h) cs es last) answered (session-run s p d h₀ h j₀ j (o .reply) (o .promised) yes (as-run run))
 
   pub opened-shared :
       {cs : List SharedCall} {es : List Event} {last : State} {end : List ℕ} → SharedRun p (leaves (latest number s s total) d h) j cs es last end →
       SharedPost (opened (plain s p d) j₀) (leaves (latest number s s total) d h) j cs es last end
   opened-shared {cs} {es} {last} {end} run =
-      let e = filled-settings o (o .promised) in
-      subst (λ (n : Settings). SharedPost (opened (plain s p d) j₀) (leaves n d h) j cs es last end) e
-      (shared-run s p d h₀ h j₀ j (o .reply) (o .promised) (sym (o .told .number-is) ∙ accepted) (subst (λ (n : Settings). SharedRun p (leaves n d h) j cs es last end) (sym e) run))
+      subst (λ (n : Settings). SharedPost (opened (plain s p d) j₀) (leaves n d h) j cs es last end) answered (shared-run s p d h₀ h j₀ j (o .reply) (o .promised) yes (as-shared run))
 
   pub opened-sound : {cs : List Call} {es : List Event} {last : State} → Run p (leaves (latest number s s total) d h) cs es last → Sound (last .settings) (plainEnd (plain s p d) cs .pictures) (last .depths) (readHeld (last .held))
-  opened-sound {cs} {es} {last} run =
-      halted-sound s p d h₀ h j₀ j (o .reply) (o .promised) (sym (o .told .number-is) ∙ accepted)
-      (subst (λ (n : Settings). Run p (leaves n d h) cs es last) (sym (filled-settings o (o .promised))) run)
+  opened-sound run = halted-sound s p d h₀ h j₀ j (o .reply) (o .promised) yes (as-run run)
 
   pub opened-shared-sound :
       {cs : List SharedCall} {es : List Event} {last : State} {end : List ℕ} → SharedRun p (leaves (latest number s s total) d h) j cs es last end →
       Sound (last .settings) (sharedEnd (opened (plain s p d) j₀) cs .start .pictures) (last .depths) (readHeld (last .held))
-  opened-shared-sound {cs} {es} {last} {end} run =
-      shared-sound s p d h₀ h j₀ j (o .reply) (o .promised) (sym (o .told .number-is) ∙ accepted)
-      (subst (λ (n : Settings). SharedRun p (leaves n d h) j cs es last end) (sym (filled-settings o (o .promised))) run)
+  opened-shared-sound run = shared-sound s p d h₀ h j₀ j (o .reply) (o .promised) yes (as-shared run)
 
   pub opened-within : {cs : List Call} {es : List Event} {last : State} → Run p (leaves (latest number s s total) d h) cs es last → AllWithin (plain s p d) cs es
-  opened-within {cs} {es} {last} run =
-      session-within s p d h₀ h j₀ j (o .reply) (o .promised) (sym (o .told .number-is) ∙ accepted)
-      (subst (λ (n : Settings). Run p (leaves n d h) cs es last) (sym (filled-settings o (o .promised))) run)
+  opened-within run = session-within s p d h₀ h j₀ j (o .reply) (o .promised) yes (as-run run)
 
   pub opened-shared-within :
       {cs : List SharedCall} {es : List Event} {last : State} {end : List ℕ} → SharedRun p (leaves (latest number s s total) d h) j cs es last end →
       AllSharedWithin (opened (plain s p d) j₀) cs es
-  opened-shared-within {cs} {es} {last} {end} run =
-      shared-within s p d h₀ h j₀ j (o .reply) (o .promised) (sym (o .told .number-is) ∙ accepted)
-      (subst (λ (n : Settings). SharedRun p (leaves n d h) j cs es last end) (sym (filled-settings o (o .promised))) run)
+  opened-shared-within run = shared-within s p d h₀ h j₀ j (o .reply) (o .promised) yes (as-shared run)
 
 -- A GET alone: it writes the change of its reply through the pointer, so that what bounds the one bounds the other.
 tried-most : {promise : Trial → Type 0} {number : ℕ} {change₀ change : ℤ} (o : TriedOut promise number change₀ change) → number ≡ 0 → (most : ℕ) → natAbs (o .reply .change) ≤ most → natAbs change ≤ most

@@ -1,13 +1,16 @@
 -- Sums.
 --     sum-next, sum-same, sum-part, sum-most, sum-turn, sum-add
+--     sum-within     terms of at most m, and 0 outside a stretch
 --     sum-rows       a sum over a plane is the sum of its rows' sums
 --     sum-change     two sums that agree outside a stretch differ by the stretch
-use Prim.Native.Nat.{ℕ, zero, suc, _+_, _-_, _*_, _<_, _≤_}
+use Prim.Native.Nat.{ℕ, zero, suc, _+_, _-_, _*_, _<_, _≤_, min}
 use mathlib.Core.Path.{_≡_, refl, ap}
+use mathlib.Core.Logic.{⊎-elim, _⊎_, inl, inr}
 use native.Mathlib.Omega.{arith}
-use native.Mathlib.Nat.{add-zero, add-suc, mul-suc, suc-mul}
+use native.Mathlib.Nat.{add-zero, add-suc, mul-suc, suc-mul, mul-le-mul, le-refl, le-trans}
 use native.Mathlib.Numerals.{add-one}
 use Rattle.model.specs.Lists.{sumTo}
+use Rattle.model.proofs.Choice.{lt-or-le}
 
 pub sum-next : (f : ℕ → ℕ) (n : ℕ) → sumTo f (n + 1) ≡ sumTo f n + f n
 unfolding sumTo
@@ -26,6 +29,25 @@ pub sum-most : (f : ℕ → ℕ) (m n : ℕ) → ((i : ℕ) → i < n → f i �
 unfolding sumTo
 sum-most f m zero h = omega arith
 sum-most f m (suc n) h = omega (arith, sum-most f m n (λ i l. h i (omega arith)), h n (omega arith), mul-suc m n)
+
+-- terms of at most m, and 0 outside a stretch
+sum-between : (f : ℕ → ℕ) (m from to n : ℕ) → ((i : ℕ) → i < n → f i ≤ m) → ((i : ℕ) → i < n → (i < from) ⊎ (to ≤ i) → f i ≡ 0) → sumTo f n ≤ m * (min n to - from)
+unfolding sumTo
+sum-between f m from to zero most none = omega arith
+sum-between f m from to (suc n) most none =
+    let before = sum-between f m from to n (λ i l. most i (omega arith)) (λ i l o. none i (omega arith) o) in
+    let same : min (suc n) to - from ≡ min n to - from → f n ≡ 0 → sumTo f n + f n ≤ m * (min (suc n) to - from) = λ e z. rw (e, z) (omega arith) in
+    ⊎-elim (λ h. same (omega arith) (none n (omega arith) (inl h)))
+    (λ h. ⊎-elim
+    (λ k. let e : min (suc n) to - from ≡ suc (min n to - from) = omega arith in rw e (omega (arith, before, most n (omega arith), mul-suc m (min n to - from))))
+    (λ k. same (omega arith) (none n (omega arith) (inr k)))
+    (lt-or-le n to))
+    (lt-or-le n from)
+
+pub sum-within : (f : ℕ → ℕ) (m from to n : ℕ) → ((i : ℕ) → i < n → f i ≤ m) → ((i : ℕ) → i < n → (i < from) ⊎ (to ≤ i) → f i ≡ 0) → sumTo f n ≤ m * (to - from)
+sum-within f m from to n most none =
+    let k : min n to - from ≤ to - from = omega arith in
+    le-trans (sum-between f m from to n most none) (mul-le-mul (le-refl m) k)
 
 pub sum-add : (f g : ℕ → ℕ) (n : ℕ) → sumTo (λ i. f i + g i) n ≡ sumTo f n + sumTo g n
 unfolding sumTo

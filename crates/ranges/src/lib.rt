@@ -1,10 +1,9 @@
-// Values that lie in their ranges: sides, entries of tables and pictures, gaps.
+// Values that lie in their ranges: sides, entries of tables and pictures, gaps, saved depths.
 use model::Tear;
 ghost use mathlib.Core.Path.{_≡_};
 ghost use mathlib.Core.Bool.{_&&_};
 ghost use Prim.Native.Nat.{_+_, _<_};
-ghost use Rattle.model.specs.Refusals.{sideOk, tableOk, tearOk, pictureOk};
-ghost use Rattle.model.specs.Refusals.{upTo};
+ghost use Rattle.model.specs.Refusals.{sideOk, upTo, tableOk, tearOk, pictureOk};
 
 // A width or height of 1 to 4,096.
 pub fn side_ok(n: u32) -> bool

@@ -12,11 +12,10 @@ use mathlib.Core.Logic.{⊎-elim, _⊎_, inl, inr}
 use mathlib.Core.List.{List}
 use native.Mathlib.Omega.{arith}
 use native.Mathlib.Nat.{le-refl, le-trans, mul-one}
-use lib.Dec.{leb, ltb}
 use lib.ListN.{length}
 use lib.IntN.{ℤ, pos, negsuc, _-ℤ_, natAbs}
 use lib.Signed.{leZ}
-use borrow.Author.Tests.{lt-leb, lt-ltb, le-ltb}
+use borrow.Author.Tests.{lt-ltb, le-ltb}
 use Rattle.model.specs.declared.Settings.{Settings}
 use Rattle.model.specs.declared.Block.{Block}
 use Rattle.model.specs.declared.Candidate.{Candidate}
@@ -30,17 +29,18 @@ use Rattle.model.specs.Fresh.{freshTotal}
 use Rattle.model.specs.Candidates.{filled}
 use Rattle.model.specs.Blocks.{inRows, written, changeOf}
 use Rattle.model.specs.Span.{firstColumn, viewPlace, inSpan, spanHas}
-use Rattle.model.specs.Refusals.{numberOf, earlyNumber, ownThen, savingThen}
+use Rattle.model.specs.Refusals.{numberOf, earlyNumber, savingThen}
 use Rattle.model.specs.Promises.{Sound, GetPost, SetPost}
 use Rattle.model.proofs.Choice.{bool-cases, lt-or-le, and-off}
-use Rattle.model.proofs.Sums.{sum-most}
+use Rattle.model.proofs.Sums.{sum-most, sum-within}
 use Rattle.model.proofs.Signs.{minus}
 use Rattle.model.proofs.Fresh.{DepthsSized}
+use Rattle.model.proofs.Written.{rows-under, rows-beyond}
 use Rattle.model.proofs.Totals.{errorAt, sample-most, sampleIn-most, square-most}
 use Rattle.model.proofs.Locality.{Columns, sized-written, spansError, change-spans}
-use Rattle.model.proofs.Refusals.{Inside, Common, OwnTests, common-facts, common-passed, common-before, rest-passed, own-facts, call-zero}
+use Rattle.model.proofs.Refusals.{Inside, Common, OwnTests, common-facts, own-facts, early-common, early-own, call-zero}
 use Rattle.reach.specs.Reach.{OneDepth, mostChange, spanLength, reachOf}
-use Rattle.reach.proofs.Positions.{start, stop, outside, most-positions, sum-within, sum-stretch}
+use Rattle.reach.proofs.Positions.{start, stop, outside, most-positions, sum-stretch}
 
 -- the size of a change that two sums of at most m make
 size-most : (a b x y m : ℕ) → a + x ≡ b + y → x ≤ m → y ≤ m → natAbs (pos a -ℤ pos b) ≤ m
@@ -55,8 +55,8 @@ none (negsuc n) h = absurd (omega arith)
 
 -- rows outside the block
 row-else : (b : Block) (y : ℕ) → b .height ≡ 1 → (y < b .row) ⊎ (b .row + 1 ≤ y) → inRows b y ≡ false
-row-else b y one (inl h) = rw (lt-leb (b .row) y h) refl
-row-else b y one (inr h) = and-off (leb (b .row) y) (ltb y (b .row + b .height)) (le-ltb y (b .row + b .height) (omega arith))
+row-else b y one (inl h) = rows-under b y h
+row-else b y one (inr h) = rows-beyond b y (omega arith)
 
 module _ (s : Settings) (p : Pictures) (d : Depths) (v : ℕ) (b : Block) (c : List ℕ) (sized : DepthsSized s d) (share : s .share ≤ 64) (inside : Inside s b) (one : OneDepth b) where
   abbrev after : Depths
@@ -145,8 +145,8 @@ module _ (s : Settings) (p : Pictures) (d : Depths) (h : Held) (v : ℕ) (b : Bl
   -- what has passed the tests before 8
   pub tested : earlyNumber s p d h v b c (length x) ≡ 0 → Common s p d h × OwnTests s v b c (length x)
   tested e = (
-    common-facts s p d h (common-passed s p d h _ e),
-    own-facts s v b c (length x) (rest-passed (common-before s p d h) (ownThen s v b c (length x) 0) e),
+    common-facts s p d h (early-common s p d h v b c (length x) e),
+    own-facts s v b c (length x) (early-own s p d h v b c (length x) e),
   )
 
   early-within : earlyNumber s p d h v b c (length x) ≡ 0 → OneDepth b → natAbs (changeOf s p d v b (filled b c x)) ≤ reachOf s d v b (filled b c x)

@@ -21,7 +21,7 @@ use Rattle.model.specs.Lists.{rowOf, entryAt}
 use Rattle.model.specs.Row.{Line, width, least, limit, quarter, signed, limitAt}
 use Rattle.model.specs.Views.{isRight, seen, entryOf}
 use Rattle.model.specs.Planes.{Pictures, Depths, View, Held, tableOf, depthsOf, readHeld}
-use Rattle.model.specs.Fresh.{lineOf, freshRow, freshView, fresh}
+use Rattle.model.specs.Fresh.{lineOf, freshRow, fresh}
 use Rattle.model.specs.Candidates.{filled}
 use Rattle.model.specs.Blocks.{writtenPlane, written}
 use Rattle.model.specs.Span.{leastEdited, spanLow, spanHigh, firstColumn, viewPlace}
@@ -31,12 +31,13 @@ use Rattle.model.proofs.Choice.{bool-cases, lt-or-le}
 use Rattle.model.proofs.Lists.{getD-row, length-plane-row, rows-apart}
 use Rattle.model.proofs.Views.{seenLine, entry-within, entry-entry, getD-seen, length-seen, getD-view-limits}
 use Rattle.model.proofs.Signs.{signed-le, signed-place, signed-quarter, signed-low}
-use Rattle.model.proofs.Fresh.{DepthsSized, depths-length, wide, row-fresh-limits, view-fresh}
+use Rattle.model.proofs.Fresh.{DepthsSized, depths-length, wide, view-fresh}
 use Rattle.model.proofs.Written.{written-inside, written-own}
 use Rattle.model.proofs.Refusals.{Inside, Tables, call-zero}
 use Rattle.model.proofs.Locality.{sized-written}
+use Rattle.run.proofs.Steps.{limit-fresh}
 use Rattle.reach.specs.Reach.{OneDepth, fromZero, lowOf, highOf, lengthOf, mostChange, spanLength}
-use Rattle.reach.specs.Held.{lesser, leastZ, placeWith, heldDepth, heldLimit, heldLow, heldHigh, heldLength}
+use Rattle.reach.specs.Held.{lesser, placeWith, heldDepth, heldLimit, heldLow, heldHigh, heldLength}
 use Rattle.reach.proofs.Positions.{high-span}
 use Rattle.reach.proofs.Change.{tested, get-within}
 
@@ -50,6 +51,11 @@ signed-min a b =
 
 lesser-same : {a b c d : ℤ} → a ≡ b → c ≡ d → lesser a c ≡ lesser b d
 lesser-same {b = b} {c = c} p q = ap (λ (z : ℤ). lesser z c) p ∙ ap (lesser b) q
+
+-- the least of f c, f (c + 1), .., n of them, and `top` where it is less
+unfoldable pub leastZ : (ℕ → ℤ) → ℤ → ℕ → ℕ → ℤ
+leastZ f top c zero = top
+leastZ f top c (suc n) = lesser (f c) (leastZ f top (suc c) n)
 
 -- so the least of raised numbers stands for the least of what they stand for
 signed-least : (f : ℕ → ℕ) (g : ℕ → ℤ) (top c n : ℕ) → ((i : ℕ) → c ≤ i → i < c + n → signed (f i) ≡ g i) → signed (least f top c n) ≡ leastZ g (signed top) c n
@@ -121,8 +127,7 @@ module _ (s : Settings) (tables : Tables s) (right : Bool) (y : ℕ) (h : y < s 
         let n : width drawn ≡ s .w = wide s p d sized right y h in
         let i< : i < s .w = entry-within right (s .w) c k in
         ap (λ (v : View). entryAt (v .limits) (s .w) y i (pos 0)) (view-fresh s p d right)
-        ∙ sym (getD-row (pos 0) (freshView s p d right .limits) (s .w) y i i<)
-        ∙ ap (λ (l : List ℤ). getD l i (pos 0)) (row-fresh-limits s p d sized right y h)
+        ∙ limit-fresh s p d sized right y i h i<
         ∙ getD-view-limits right drawn i (rw n i<)
         ∙ ap (limitAt (seenLine right drawn)) (ap (λ (m : ℕ). entryOf right m i) n ∙ entry-entry right (s .w) c k)
         ∙ ap (λ (m : ℕ). signed (limit (viewPlace s right d y) m c)) (length-seen right (drawn .depths) ∙ n)

@@ -4,14 +4,13 @@
 --     inside, outside    the span is the positions from `start` to below `stop`
 --     most-positions     the bound counts no fewer
 --     one-more           and at most one more
---     sum-within         a sum whose terms are 0 outside a stretch
---     sum-stretch        and of a row as the view reads it
-use Prim.Native.Nat.{ℕ, zero, suc, _+_, _-_, _*_, _/_, _<_, _≤_, min}
+--     sum-stretch        a sum over a row, as the view reads it, whose terms are 0 outside a stretch
+use Prim.Native.Nat.{ℕ, _+_, _-_, _*_, _/_, _<_, _≤_}
 use mathlib.Core.Path.{_≡_, refl, sym, ap, _∙_}
 use mathlib.Core.Bool.{Bool, true, false}
 use mathlib.Core.Logic.{⊎-elim, _⊎_, inl, inr}
 use native.Mathlib.Omega.{arith}
-use native.Mathlib.Nat.{mul-suc, mul-le-mul, le-refl, le-trans}
+use native.Mathlib.Nat.{mul-le-mul, le-refl, le-trans}
 use lib.Dec.{leb, ltb, eqb}
 use lib.IntN.{subℕ}
 use borrow.Author.Tests.{lt-leb, le-ltb, lt-ltb, le-leb, eqb-true}
@@ -21,6 +20,7 @@ use Rattle.model.specs.Views.{entryOf}
 use Rattle.model.specs.Combined.{worst}
 use Rattle.model.specs.Span.{spanLow, spanHigh, inSpan}
 use Rattle.model.proofs.Choice.{bool-cases, lt-or-le, and-true, and-off}
+use Rattle.model.proofs.Sums.{sum-within}
 use Rattle.model.proofs.Owners.{limit-end}
 use Rattle.model.proofs.Signs.{signed-quarter, signed-gap}
 use Rattle.reach.specs.Reach.{lowOf, fromZero, highOf, lengthOf, mostChange}
@@ -97,25 +97,6 @@ module _ (f g : ℕ → ℕ) (w c : ℕ) where
       rw most-length (omega arith)
 
 -- ---- sums
-
--- terms of at most m, and 0 outside a stretch
-sum-between : (f : ℕ → ℕ) (m from to n : ℕ) → ((i : ℕ) → i < n → f i ≤ m) → ((i : ℕ) → i < n → (i < from) ⊎ (to ≤ i) → f i ≡ 0) → sumTo f n ≤ m * (min n to - from)
-unfolding sumTo
-sum-between f m from to zero most none = omega arith
-sum-between f m from to (suc n) most none =
-    let before = sum-between f m from to n (λ i l. most i (omega arith)) (λ i l o. none i (omega arith) o) in
-    let same : min (suc n) to - from ≡ min n to - from → f n ≡ 0 → sumTo f n + f n ≤ m * (min (suc n) to - from) = λ e z. rw (e, z) (omega arith) in
-    ⊎-elim (λ h. same (omega arith) (none n (omega arith) (inl h)))
-    (λ h. ⊎-elim
-    (λ k. let e : min (suc n) to - from ≡ suc (min n to - from) = omega arith in rw e (omega (arith, before, most n (omega arith), mul-suc m (min n to - from))))
-    (λ k. same (omega arith) (none n (omega arith) (inr k)))
-    (lt-or-le n to))
-    (lt-or-le n from)
-
-pub sum-within : (f : ℕ → ℕ) (m from to n : ℕ) → ((i : ℕ) → i < n → f i ≤ m) → ((i : ℕ) → i < n → (i < from) ⊎ (to ≤ i) → f i ≡ 0) → sumTo f n ≤ m * (to - from)
-sum-within f m from to n most none =
-    let k : min n to - from ≤ to - from = omega arith in
-    le-trans (sum-between f m from to n most none) (mul-le-mul (le-refl m) k)
 
 -- a stretch read backwards
 turned : (w i from to : ℕ) → i < w → (i < w - to) ⊎ (w - from ≤ i) → (w - 1 - i < from) ⊎ (to ≤ w - 1 - i)

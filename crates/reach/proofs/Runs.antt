@@ -25,7 +25,7 @@ use Rattle.run.specs.Shared.SharedCall.{get as shared-get, set as shared-set, t
 use Rattle.run.proofs.Steps.{Ready, ready-written, ready-moved}
 use Rattle.run.proofs.Calls.{fill-ready, chosen, set-own}
 use Rattle.run.proofs.Run.{session-run}
-use Rattle.run.proofs.Shared.{ready-turn, shared-run, kept-run}
+use Rattle.run.proofs.Shared.{ready-turn, shared-run, shared-ready, kept-run}
 use Rattle.reach.specs.Reach.{OneDepth, reachOf}
 use Rattle.reach.specs.Runs.{CallWithin, AllWithin, SharedWithin, AllSharedWithin}
 use Rattle.reach.proofs.Change.{change-within}
@@ -82,11 +82,6 @@ unfolding AllSharedWithin sharedEvents
 record-within r ok [] = tt
 record-within r ok (k ∷ ks) = (shared-call-within r ok k, record-within (sharedNext r k) (ready-shared r ok k) ks)
 
-ready-end : (r : SharedPlain) → Ready (r .start) → (ks : List SharedCall) → Ready (sharedEnd r ks .start)
-unfolding sharedEnd
-ready-end r ok [] = ok
-ready-end r ok (k ∷ ks) = ready-end (sharedNext r k) (ready-shared r ok k) ks
-
 -- ---- after an accepted OPEN
 
 module _ (s : Settings) (p : Pictures) (d : Depths) (h₀ h : Held) (j₀ j : List ℕ) (o : Opened) (post : OpenPost s p d h₀ h j₀ j o) (yes : numberOf (o .refusal) ≡ 0) where
@@ -108,4 +103,4 @@ module _ (s : Settings) (p : Pictures) (d : Depths) (h₀ h : Held) (j₀ j : Li
   kept-within {cs = cs} {ds = ds} {end = end} run further =
       let ends : SharedPlain = sharedEnd (opened (plain s p d) j₀) cs in
       subst (AllSharedWithin (opened (standsAs ends) end) ds) (sym (kept-run s p d h₀ h j₀ j o post yes run further .events))
-      (record-within (opened (standsAs ends) end) (ready-turn (ends .start) (ready-end (opened (plain s p d) j₀) ready-first cs) (ends .standing)) ds)
+      (record-within (opened (standsAs ends) end) (shared-ready s p d h₀ h j₀ j o post yes run) ds)

@@ -1,5 +1,5 @@
 -- L as a caller works it out from what it holds (include/luphwezane.h, luph_get): the limit held for the next column, the view's table, and depths.
-use Prim.Native.Nat.{ℕ, zero, suc, _+_, _-_, _*_}
+use Prim.Native.Nat.{ℕ, _+_, _-_, _*_}
 use mathlib.Core.Bool.{Bool, cond}
 use lib.Dec.{eqb}
 use lib.IntN.{ℤ, pos, _-ℤ_}
@@ -15,11 +15,6 @@ use Rattle.reach.specs.Reach.{fromZero}
 -- the lesser of two numbers
 abbrev pub lesser : ℤ → ℤ → ℤ
 lesser a b = cond (leZ a b) a b
-
--- the least of f c, f (c + 1), .., n of them, and `top` where it is less
-unfoldable pub leastZ : (ℕ → ℤ) → ℤ → ℕ → ℕ → ℤ
-leastZ f top c zero = top
-leastZ f top c (suc n) = lesser (f c) (leastZ f top (suc c) n)
 
 -- the place of column c, as the view reads the row, with depth q: 4 × c − table[q]
 abbrev pub placeWith : Settings → Bool → ℕ → ℕ → ℤ

@@ -93,16 +93,19 @@ module _ (s : Settings) (p : Pictures) (d : Depths) (h₀ h : Held) (j₀ j : Li
   abbrev ends : Plain
   ends = plainEnd (plain s p d) cs
 
+  halted-ready : Ready ends
+  halted-ready = from-first .1
+
   pub halted-sound : Sound (last .settings) (ends .pictures) (last .depths) (readHeld (last .held))
   unfolding plainState
   halted-sound =
-      subst (λ (x : State). Sound (x .settings) (ends .pictures) (x .depths) (readHeld (x .held))) (sym (from-first .0 .session)) (sound-as-read ends (from-first .1))
+      subst (λ (x : State). Sound (x .settings) (ends .pictures) (x .depths) (readHeld (x .held))) (sym (from-first .0 .session)) (sound-as-read ends halted-ready)
 
   -- A fresh OPEN that is passed what the record ends with is accepted where the held planes lent to it have their lengths and the journal a word.
   pub halted-opens :
       (g : Held) (k : List ℕ) → HeldOf (area (ends .settings)) (markBytes (ends .settings .w) * ends .settings .h) g → 0 < length k →
       openNumber (ends .settings) (ends .pictures) (ends .depths) g k ≡ 0
-  halted-opens = ready-open ends (from-first .1)
+  halted-opens = ready-open ends halted-ready
 
 -- What a run leaves is what a fresh OPEN leaves that is passed what the record ends with: settings and reference of the last accepted MOVE, and the depths.
 pub halted-as-opened :

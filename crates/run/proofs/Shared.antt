@@ -3,6 +3,7 @@
 --     kept-run             and again after the caller has emptied the journal
 --     shared-as-opened     what such a run leaves is what a fresh OPEN leaves, with the settings and reference of the last accepted MOVE
 --     shared-opens         and such an OPEN is accepted
+--     shared-ready         the record at its end has passed the tests of OPEN, or of the last accepted MOVE
 --     shared-sound         what such a run leaves is sound as GET reads it
 --     shared-halts         such a run halted after any of its calls is one
 --     get-next             a GET leaves the plain record as it was
@@ -307,10 +308,13 @@ module _ (s : Settings) (p : Pictures) (d : Depths) (h₀ h : Held) (j₀ j : Li
   abbrev ends : SharedPlain
   ends = sharedEnd (opened (plain s p d) j₀) cs
 
+  pub shared-ready : Ready (standsAs ends)
+  shared-ready = ready-now (from-first .between)
+
   pub shared-sound : Sound (last .settings) (ends .start .pictures) (last .depths) (readHeld (last .held))
   unfolding plainState
   shared-sound =
-      subst (λ (x : State). Sound (x .settings) (ends .start .pictures) (x .depths) (readHeld (x .held))) (sym (from-first .state)) (sound-as-read (standsAs ends) (ready-now (from-first .between)))
+      subst (λ (x : State). Sound (x .settings) (ends .start .pictures) (x .depths) (readHeld (x .held))) (sym (from-first .state)) (sound-as-read (standsAs ends) shared-ready)
 
   -- A caller that empties the journal after some calls, as OPEN does, has it all again: the SETs standing then are those after that, over the depths of then.
   pub kept-run :
@@ -321,13 +325,13 @@ module _ (s : Settings) (p : Pictures) (d : Depths) (h₀ h : Held) (j₀ j : Li
       let f = from-first in
       let words = subst (λ (x : List ℕ). 0 < length x) (sym (f .journal)) (f .between .ledger .words) in
       posted (f .state) refl
-      (from-empty (standsAs ends) (ready-now (f .between)) (f .between .ledger .eight-bit) end words further (f .state) refl)
+      (from-empty (standsAs ends) shared-ready (f .between .ledger .eight-bit) end words further (f .state) refl)
 
   -- A fresh OPEN that is passed what the record ends with is accepted where the held planes lent to it have their lengths and the journal a word.
   pub shared-opens :
       (g : Held) (k : List ℕ) → HeldOf (area (ends .start .settings)) (markBytes (ends .start .settings .w) * ends .start .settings .h) g → 0 < length k →
       openNumber (ends .start .settings) (ends .start .pictures) (standsAs ends .depths) g k ≡ 0
-  shared-opens = ready-open (standsAs ends) (ready-now (from-first .between))
+  shared-opens = ready-open (standsAs ends) shared-ready
 
 -- What a run leaves is what a fresh OPEN leaves that is passed what the record ends with: settings and reference of the last accepted MOVE, and the depths standing.
 pub shared-as-opened :

@@ -2,6 +2,7 @@
 --     ready, ready-written, ready-moved      every record of a run has passed OPEN's tests
 --     ready-common, ready-open, ready-move   so that 1 to 4 and 20 never apply, a fresh OPEN of it is accepted, and MOVE goes by what is new
 --     state-total                            what is drawn is the same whatever the total was
+--     limit-fresh                            the limits of a fresh drawing, entry by entry
 --     local-written                          a written block changes no more than document 01 allows
 use Prim.Native.Nat.{ℕ, _*_, _<_, _≤_}
 use mathlib.Core.Path.{_≡_, refl, ap, sym, _∙_}
@@ -145,7 +146,7 @@ module _ (s : Settings) (p : Pictures) (d : Depths) (z : DepthsSized s d) (r : B
       let m = mark-fresh s p d z r y x h k in
       rw (a, f, m)
 
-  limit-fresh : limitIn (s .w) (freshView s p d r) y x ≡ getD (freshRow s p d r y .limits) x (pos 0)
+  pub limit-fresh : limitIn (s .w) (freshView s p d r) y x ≡ getD (freshRow s p d r y .limits) x (pos 0)
   limit-fresh =
       sym (getD-row (pos 0) (freshView s p d r .limits) (s .w) y x k) ∙ ap (λ (l : List ℤ). getD l x (pos 0)) (row-fresh-limits s p d z r y h)
 
