@@ -13,11 +13,13 @@ use Rattle.model.specs.Promises.{Sound, OpenPost}
 use Rattle.run.specs.Run.{Call, Event, Run, leaves, plain, plainEnd, RunPost}
 use Rattle.run.specs.Shared.{SharedCall, SharedRun, opened, sharedEnd, SharedPost}
 use Rattle.reach.specs.Runs.{AllWithin, AllSharedWithin}
+use Rattle.order.specs.Orders.{AnyOrder}
+use Rattle.order.specs.NoOp.{AllNoOps, AllSharedNoOps}
 use Rattle.luphwezane.specs.Exports.{OpenedOut}
 use Rattle.luphwezane.proofs.luph_raw_open.Reads as open-reads
 use Rattle.luphwezane.proofs.luph_raw_open.Kinds as open-kinds
 use Rattle.bound.specs.Latest.{latest}
-use Rattle.bound.proofs.Steps.{opened-run, opened-shared, opened-sound, opened-shared-sound, opened-within, opened-shared-within}
+use Rattle.bound.proofs.Steps.{opened-run, opened-shared, opened-sound, opened-shared-sound, opened-within, opened-shared-within, opened-order, opened-shared-order, opened-no-op, opened-shared-no-op}
 
 module _ (κs : Lfts 16) (a : Dens κs open-kinds.ps) (r : ℕ) (x : AtExit (endedOf 16 open-kinds.ps open-kinds.r) κs) (learnt : open-reads.Learnt κs a r x) where
   abbrev s : Settings
@@ -75,3 +77,20 @@ module _ (κs : Lfts 16) (a : Dens κs open-kinds.ps) (r : ℕ) (x : AtExit (end
       r ≡ 0 → {cs : List SharedCall} {es : List Event} {last : State} {end : List ℕ} → SharedRun p (leaves (latest r s s total) d₀ h) j cs es last end →
       AllSharedWithin (opened (plain s p d₀) j₀) cs es
   open-shared-within = opened-shared-within open-bound
+
+  -- Separate SETs after the run end alike in every order (card 10), and a call of the run that brings the depths that its block has changes nothing.
+  pub open-order : r ≡ 0 → {cs : List Call} {es : List Event} {mid : State} → Run p (leaves (latest r s s total) d₀ h) cs es mid → AnyOrder (plainEnd (plain s p d₀) cs .pictures) mid
+  open-order = opened-order open-bound
+
+  pub open-shared-order :
+      r ≡ 0 → {cs : List SharedCall} {es : List Event} {mid : State} {end : List ℕ} → SharedRun p (leaves (latest r s s total) d₀ h) j cs es mid end →
+      AnyOrder (sharedEnd (opened (plain s p d₀) j₀) cs .start .pictures) mid
+  open-shared-order = opened-shared-order open-bound
+
+  pub open-no-op : r ≡ 0 → {cs : List Call} {es : List Event} {last : State} → Run p (leaves (latest r s s total) d₀ h) cs es last → AllNoOps (leaves (latest r s s total) d₀ h) cs es
+  open-no-op = opened-no-op open-bound
+
+  pub open-shared-no-op :
+      r ≡ 0 → {cs : List SharedCall} {es : List Event} {last : State} {end : List ℕ} → SharedRun p (leaves (latest r s s total) d₀ h) j cs es last end →
+      AllSharedNoOps (leaves (latest r s s total) d₀ h) cs es
+  open-shared-no-op = opened-shared-no-op open-bound

@@ -1,7 +1,8 @@
 -- What a caller learns of a call of `luph_raw_set` carries SET's promise, so the call is a step of a run of either kind. a is what it was passed, x what it left, r the number.
 use Prim.Native.Nat.{ℕ}
+use mathlib.Core.Path.{_≡_}
 use mathlib.Core.List.{List, _∷_}
-use lib.IntN.{ℤ}
+use lib.IntN.{ℤ, pos}
 use denote.Ref.{now}
 use denote.Triple.Clauses.{AtExit}
 use contract.Lifetimes.{Lfts}
@@ -10,7 +11,9 @@ use Rattle.model.specs.declared.Settings.{Settings}
 use Rattle.model.specs.declared.Block.{Block}
 use Rattle.model.specs.declared.Candidate.{Candidate}
 use Rattle.model.specs.Planes.{Pictures, Depths, Held, State, pictures, depths, view, held}
-use Rattle.model.specs.Promises.{SetPost}
+use Rattle.model.specs.Candidates.{filled}
+use Rattle.model.specs.Blocks.{oldDepths}
+use Rattle.model.specs.Promises.{Sound, SetPost}
 use Rattle.shape.specs.Shapes.{candidateOf, bytesOf}
 use Rattle.run.specs.Run.{Call, Event, Run, leaves, plainAnswer}
 use Rattle.run.specs.Run.Call.{set}
@@ -20,7 +23,7 @@ use Rattle.luphwezane.specs.Exports.{EditedOut}
 use Rattle.luphwezane.proofs.luph_raw_set.Reads as set-reads
 use Rattle.luphwezane.proofs.luph_raw_set.Kinds as set-kinds
 use Rattle.bound.specs.Latest.{latest}
-use Rattle.bound.proofs.Steps.{wrote-step, wrote-shared}
+use Rattle.bound.proofs.Steps.{wrote-step, wrote-shared, wrote-no-op}
 
 module _ (κs : Lfts 18) (a : Dens κs set-kinds.ps) (r : ℕ) (x : AtExit (endedOf 18 set-kinds.ps set-kinds.r) κs) (learnt : set-reads.Learnt κs a r x) where
   abbrev s : Settings
@@ -83,3 +86,7 @@ module _ (κs : Lfts 18) (a : Dens κs set-kinds.ps) (r : ℕ) (x : AtExit (ende
       {cs : List SharedCall} {es : List Event} {last : State} {end : List ℕ} → SharedRun p (leaves (latest r s s total) d h) j cs es last end →
       SharedRun p (leaves s d₀ h₀) j₀ (shared-set v b c y ∷ cs) (record { reply = plainAnswer r change; after = leaves (latest r s s total) d h; journal = j } ∷ es) last end
   set-shared = wrote-shared set-bound
+
+  -- Of the depths that the block has, on a sound session: the change is 0, and the caller's session is what it was (document 02, card 10).
+  pub set-no-op : Sound s p d₀ h₀ → r ≡ 0 → filled b c y ≡ oldDepths s v b d₀ → (change ≡ pos 0) × (leaves (latest r s s total) d h ≡ leaves s d₀ h₀)
+  set-no-op sound = wrote-no-op sound set-bound

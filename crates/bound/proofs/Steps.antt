@@ -6,13 +6,15 @@
 --     opened-sound, opened-shared-sound                what the run leaves is sound as GET reads it
 --     opened-within, opened-shared-within              and the bound of document 02, card 4, in such a run
 --     tried-within, tried-held                         and of a GET alone, also as a caller works it out from what it holds
+--     opened-order, opened-shared-order                separate SETs after the run, in any order (card 10); wrote-orders: two of them, on any sound session
+--     opened-no-op, opened-shared-no-op                  SETs of the depths that their blocks have, in the run; wrote-no-op: one, on any sound session
 use Prim.Native.Nat.{ℕ, _≤_}
 use mathlib.Core.Path.{_≡_, sym, ap, _∙_, subst}
 use mathlib.Core.List.{List, [], _∷_}
 use lib.Dec.{eqb}
-use lib.IntN.{ℤ, pos, natAbs}
+use lib.IntN.{ℤ, pos, _+ℤ_, natAbs}
 use lib.ListN.{getD}
-use borrow.Author.Tests.{eqb-true, eqb-false}
+use borrow.Author.Tests.{eq-eqb, eqb-true, eqb-false}
 use Rattle.model.specs.declared.Settings.{Settings}
 use Rattle.model.specs.declared.Block.{Block}
 use Rattle.model.specs.declared.Candidate.{Candidate}
@@ -22,12 +24,13 @@ use Rattle.model.specs.declared.Edited.{Edited}
 use Rattle.model.specs.Views.{isRight}
 use Rattle.model.specs.Planes.{Pictures, Depths, Held, State, withTotal, withSeat, withReference, readHeld}
 use Rattle.model.specs.Candidates.{filled}
+use Rattle.model.specs.Blocks.{oldDepths}
 use Rattle.model.specs.Refusals.{numberOf}
 use Rattle.model.specs.Promises.{Sound, FillPost, OpenPost, MovePost, GetPost, EditPost, SetPost, TakeBackPost}
 use Rattle.model.proofs.Choice.{bool-cases}
 use Rattle.run.specs.Run.{Call, Reply, Event, Run, replyOf, leaves, picturesAfter, plain, plainAnswer, plainEnd, RunPost}
 use Rattle.run.specs.Run.Call.{get, set, move}
-use Rattle.run.specs.Run.Run.{got, wrote, moved}
+use Rattle.run.specs.Run.Run.{halted, got, wrote, moved}
 use Rattle.run.specs.Shared.{SharedCall, SharedRun, opened, sharedEnd, SharedPost}
 use Rattle.run.specs.Shared.SharedCall.{get as shared-get, set as shared-set, takeBack, move as shared-move}
 use Rattle.run.specs.Shared.SharedRun.{got as also-got, wrote as also-wrote, took, moved as also-moved}
@@ -39,6 +42,11 @@ use Rattle.reach.specs.Runs.{AllWithin, AllSharedWithin}
 use Rattle.reach.proofs.Change.{get-within}
 use Rattle.reach.proofs.Held.{get-held}
 use Rattle.reach.proofs.Runs.{session-within, shared-within}
+use Rattle.order.specs.Separate.{edit, Separate}
+use Rattle.order.specs.Orders.{Alike, AnyOrder}
+use Rattle.order.specs.NoOp.{AllNoOps, AllSharedNoOps}
+use Rattle.order.proofs.Orders.{two-orders, run-order, shared-order}
+use Rattle.order.proofs.NoOp.{set-no-op, session-no-op, shared-no-op}
 use Rattle.luphwezane.specs.Exports.{OpenedOut, TriedOut, EditedOut}
 use Rattle.bound.specs.Latest.{latest}
 
@@ -52,6 +60,11 @@ reply-told number n change found e told none =
     bool-cases (eqb number 0)
     (λ t. rw (t, e, told (eqb-true number 0 t)))
     (λ t. rw (t, e, none (λ z. eqb-false number 0 t (e ∙ z))))
+
+-- where the call was accepted, the event has its change
+accepted-change : (number : ℕ) (change : ℤ) → number ≡ 0 → plainAnswer number change .change ≡ change
+unfolding plainAnswer
+accepted-change number change z = rw (eq-eqb number 0 z)
 
 settings-told :
     (number total t : ℕ) (s n given : Settings) → (number ≡ 0 → total ≡ given .total) → (number ≡ 0 → given ≡ withTotal n t) → ((number ≡ 0 → ⊥) → given ≡ s) →
@@ -186,6 +199,24 @@ module _ {s : Settings} {p : Pictures} {d : Depths} {h₀ h : Held} {j₀ j : Li
       AllSharedWithin (opened (plain s p d) j₀) cs es
   opened-shared-within run = shared-within s p d h₀ h j₀ j (o .reply) (o .promised) yes (as-shared run)
 
+  pub opened-order : {cs : List Call} {es : List Event} {mid : State} → Run p (leaves (latest number s s total) d h) cs es mid → AnyOrder (plainEnd (plain s p d) cs .pictures) mid
+  opened-order run = run-order (opened-run run)
+
+  pub opened-shared-order :
+      {cs : List SharedCall} {es : List Event} {mid : State} {end : List ℕ} → SharedRun p (leaves (latest number s s total) d h) j cs es mid end →
+      AnyOrder (sharedEnd (opened (plain s p d) j₀) cs .start .pictures) mid
+  opened-shared-order run = shared-order (opened-shared run)
+
+  pub opened-no-op : {cs : List Call} {es : List Event} {last : State} → Run p (leaves (latest number s s total) d h) cs es last → AllNoOps (leaves (latest number s s total) d h) cs es
+  opened-no-op {cs} {es} {last} run =
+      subst (λ (n : Settings). AllNoOps (leaves n d h) cs es) answered (session-no-op s p d h₀ h j₀ j (o .reply) (o .promised) yes (as-run run))
+
+  pub opened-shared-no-op :
+      {cs : List SharedCall} {es : List Event} {last : State} {end : List ℕ} → SharedRun p (leaves (latest number s s total) d h) j cs es last end →
+      AllSharedNoOps (leaves (latest number s s total) d h) cs es
+  opened-shared-no-op {cs} {es} {last} {end} run =
+      subst (λ (n : Settings). AllSharedNoOps (leaves n d h) cs es) answered (shared-no-op s p d h₀ h j₀ j (o .reply) (o .promised) yes (as-shared run))
+
 -- A GET alone: it writes the change of its reply through the pointer, so that what bounds the one bounds the other.
 tried-most : {promise : Trial → Type 0} {number : ℕ} {change₀ change : ℤ} (o : TriedOut promise number change₀ change) → number ≡ 0 → (most : ℕ) → natAbs (o .reply .change) ≤ most → natAbs change ≤ most
 tried-most o z most h = subst (λ (n : ℤ). natAbs n ≤ most) (sym (o .told .accepted z)) h
@@ -196,3 +227,31 @@ module _ {s : Settings} {p : Pictures} {d : Depths} {h : Held} {v : ℕ} {b : Bl
 
   pub tried-held : natAbs change ≤ mostChange (heldLength s (isRight v) b d h (getD (filled b c x) 0 0))
   tried-held = tried-most o z _ (get-held s p d h v b c x (o .reply) (o .promised) sound (sym (o .told .number-is) ∙ z) one)
+
+-- ---- SET alone, on any sound session
+
+module _ {p : Pictures} {st : State} (sound : Sound (st .settings) p (st .depths) (st .held)) where
+  -- One of the depths that its block has: the change through the pointer is 0, and the caller's session is what it was.
+  pub wrote-no-op :
+      {d : Depths} {h : Held} {j k : List ℕ} {v : ℕ} {b : Block} {c : Candidate} {x : List ℕ} {number total₀ total : ℕ} {change₀ change : ℤ} →
+      EditedOut (SetPost (st .settings) p (st .depths) d (st .held) h j k v b c x) number change₀ change total₀ total → number ≡ 0 → filled b c x ≡ oldDepths (st .settings) v b (st .depths) →
+      (change ≡ pos 0) × (leaves (latest number (st .settings) (st .settings) total) d h ≡ st)
+  wrote-no-op {d} {h} {j} {k} {v} {b} {c} {x} o z has =
+      let same = set-no-op (st .settings) p (st .depths) (st .held) v b c x has d h j k (o .reply) (o .promised) sound (sym (o .told .number-is) ∙ z) in
+      (o .told .accepted z .0 ∙ same .0, ap (λ (n : Settings). leaves n d h) (sym (edited-settings o (o .promised .edit))) ∙ same .1)
+
+  -- Two separate ones, in one order and in the other.
+  pub wrote-orders :
+      {d₁ d₂ d₃ d₄ : Depths} {h₁ h₂ h₃ h₄ : Held} {j₁ j₂ j₃ j₄ k₁ k₂ k₃ k₄ : List ℕ} {v u : ℕ} {b g : Block} {c f : Candidate} {x y : List ℕ} {n₁ n₂ n₃ n₄ t₁ t₂ t₃ t₄ t₅ t₆ t₇ t₈ : ℕ}
+      {z₁ z₂ z₃ z₄ a₁ a₂ a₃ a₄ : ℤ} →
+      let s : Settings = st .settings in
+      EditedOut (SetPost s p (st .depths) d₁ (st .held) h₁ j₁ k₁ v b c x) n₁ z₁ a₁ t₁ t₂ →
+      EditedOut (SetPost (latest n₁ s s t₂) p d₁ d₂ h₁ h₂ j₂ k₂ u g f y) n₂ z₂ a₂ t₃ t₄ →
+      EditedOut (SetPost s p (st .depths) d₃ (st .held) h₃ j₃ k₃ u g f y) n₃ z₃ a₃ t₅ t₆ →
+      EditedOut (SetPost (latest n₃ s s t₆) p d₃ d₄ h₃ h₄ j₄ k₄ v b c x) n₄ z₄ a₄ t₇ t₈ →
+      n₁ ≡ 0 → n₂ ≡ 0 → n₃ ≡ 0 → n₄ ≡ 0 → Separate (edit v b (filled b c x)) (edit u g (filled g f y)) →
+      Alike (leaves (latest n₂ (latest n₁ s s t₂) (latest n₁ s s t₂) t₄) d₂ h₂) (leaves (latest n₄ (latest n₃ s s t₆) (latest n₃ s s t₆) t₈) d₄ h₄) (a₁ +ℤ a₂) (a₃ +ℤ a₄)
+  unfolding plainAnswer
+  wrote-orders {n₁ = n₁} {n₂ = n₂} {n₃ = n₃} {n₄ = n₄} {a₁ = a₁} {a₂ = a₂} {a₃ = a₃} {a₄ = a₄} a b c d e₁ e₂ e₃ e₄ separate =
+      rw (accepted-change n₁ a₁ e₁, accepted-change n₂ a₂ e₂, accepted-change n₃ a₃ e₃, accepted-change n₄ a₄ e₄) at
+      (two-orders sound (wrote-step a (wrote-step b halted)) (wrote-step c (wrote-step d halted)) e₁ e₂ e₃ e₄ separate)

@@ -27,7 +27,7 @@ use Rattle.model.specs.Fresh.{lineOf, freshRow, freshView, fresh, freshT
 use Rattle.model.specs.Reports.{sameEntry, sameLimit, sameMark, sameView, sameAt, reportOf}
 use Rattle.model.specs.Promises as promises
 use Rattle.model.specs.Promises.{MarkBytes}
-use Rattle.model.proofs.Choice.{lt-or-le, and-true, and-left, and-right, and-false}
+use Rattle.model.proofs.Choice.{lt-or-le, and-true, and-left, and-right, and-false, clash, or-false}
 use Rattle.model.proofs.Lists.{entry-fits, getD-row, length-plane-row, plane-ext}
 use Rattle.model.proofs.Packing.{marks-ext, bytes-packRow}
 use Rattle.model.proofs.Fresh.{flags-view, row-fresh-marks, length-fresh-samples, length-fresh-fronts, length-fresh-limits, length-fresh-marks, length-fresh-combined}
@@ -82,17 +82,8 @@ signed-itself : (a : ℤ) → (leZ a a && leZ a a) ≡ true
 signed-itself (pos a) = rw (le-leb a a (omega arith))
 signed-itself (negsuc a) = rw (le-leb a a (omega arith))
 
--- true is not false
-clash : {t : Bool} → t ≡ true → t ≡ false → ⊥
-clash {t = true} e f = let z : _≡_ {A = ℕ} 0 1 = cc in omega arith
-clash {t = false} e f = let z : _≡_ {A = ℕ} 0 1 = cc in omega arith
-
 pub signed-differs : (a b : ℤ) → (leZ a b && leZ b a) ≡ false → a ≡ b → ⊥
 signed-differs a b e q = clash (subst (λ (c : ℤ). (leZ a c && leZ c a) ≡ true) q (signed-itself a)) e
-
-or-false : (a b : Bool) → (a || b) ≡ false → (a ≡ false) × (b ≡ false)
-or-false true b e = absurd (clash refl e)
-or-false false b e = (refl, e)
 
 -- ---- the tests of a position
 

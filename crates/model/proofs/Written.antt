@@ -1,10 +1,13 @@
 -- A candidate written into a block, by rows.
 --     length-written, written-out      the plane keeps its length, and what lies outside the block
---     written-at                       what stands at column x of row y
+--     written-entry, written-at        what stands at an entry, and at column x of row y
+--     written-over                     what was written in a block before leaves no trace
+--     Covers, covers, covers-yes       a position that lies in the block
 --     written-row-out, written-row-in  a row outside the block stays; one of the block has the candidate's row in its columns
 --     written-edited                   as a view reads the row, an edit of the block's columns
 --     written-other, written-own       the other view's depths stay
 --     old-at, old-back, written-back   the depths that stood in the block; written again, they restore the planes
+--     written-old                      written where they stand, they change nothing
 --     old-most                         they are at most what the plane's are
 use Prim.Native.Nat.{ℕ, _+_, _-_, _*_, _/_, _%_, _<_, _≤_}
 use mathlib.Core.Path.{_≡_, refl, sym, ap, _∙_}
@@ -26,7 +29,7 @@ use Rattle.model.specs.Planes.{Depths, depthsOf, withTotal}
 use Rattle.model.specs.Candidates.{positions}
 use Rattle.model.specs.Blocks.{inRows, inColumns, inBlock, candidateAt, writtenPlane, written, blockDepths, oldDepths}
 use Rattle.model.specs.Span.{firstColumn}
-use Rattle.model.proofs.Choice.{bool-cases, lt-or-le, and-true, and-left, and-right}
+use Rattle.model.proofs.Choice.{bool-cases, lt-or-le, and-true, and-left, and-right, and-off}
 use Rattle.model.proofs.Lists.{length-listOf, getD-listOf, length-row, getD-row, row-ext, plane-ext, rows-apart, entry-fits}
 use Rattle.model.proofs.Views.{length-seen, getD-seen}
 use Rattle.model.proofs.Spans.{EditedRow}
@@ -41,24 +44,37 @@ module _ (w : ℕ) (b : Block) (c plane : List ℕ) where
   unfolding writtenPlane
   length-written = length-listOf _ (length plane)
 
-  entry : (i : ℕ) → i < length plane → getD (writtenPlane w b c plane) i 0 ≡ cond (inBlock w b i) (candidateAt w b c i) (getD plane i 0)
+  pub written-entry : (i : ℕ) → i < length plane → getD (writtenPlane w b c plane) i 0 ≡ cond (inBlock w b i) (candidateAt w b c i) (getD plane i 0)
   unfolding writtenPlane
-  entry i h = getD-listOf 0 (λ j. cond (inBlock w b j) (candidateAt w b c j) (getD plane j 0)) (length plane) i h
+  written-entry i h = getD-listOf 0 (λ j. cond (inBlock w b j) (candidateAt w b c j) (getD plane j 0)) (length plane) i h
 
   pub written-out : (i : ℕ) → inBlock w b i ≡ false → getD (writtenPlane w b c plane) i 0 ≡ getD plane i 0
   written-out i e =
-      ⊎-elim (λ h. entry i h ∙ rw e)
+      ⊎-elim (λ h. written-entry i h ∙ rw e)
       (λ h. List·getD-eq-default (writtenPlane w b c plane) 0 (rw length-written h) ∙ sym (List·getD-eq-default plane 0 h))
       (lt-or-le i (length plane))
 
   -- what stands at column x of row y
   pub written-at : (y x : ℕ) → x < w → y * w + x < length plane → getD (writtenPlane w b c plane) (y * w + x) 0 ≡ cond (inRows b y && inColumns b x) (getD c ((y - b .row) * b .width + (x - b .column)) 0) (getD plane (y * w + x) 0)
   unfolding inBlock
-  written-at y x h k = entry (y * w + x) k ∙ rw (digits-div y h, digits-mod y h)
+  written-at y x h k = written-entry (y * w + x) k ∙ rw (digits-div y h, digits-mod y h)
 
   pub written-row-out : (y : ℕ) → inRows b y ≡ false → rowOf (writtenPlane w b c plane) w y ≡ rowOf plane w y
   unfolding inBlock
   written-row-out y e = row-ext 0 (writtenPlane w b c plane) plane w y length-written (λ x h. written-out (y * w + x) (rw (digits-div y h, e)))
+
+-- A block written twice holds what was written last.
+pub written-over : (w : ℕ) (b : Block) (c e plane : List ℕ) → writtenPlane w b c (writtenPlane w b e plane) ≡ writtenPlane w b c plane
+written-over w b c e plane =
+    let n : length (writtenPlane w b c (writtenPlane w b e plane)) ≡ length plane = length-written w b c (writtenPlane w b e plane) ∙ length-written w b e plane in
+    ext-getD 0 (writtenPlane w b c (writtenPlane w b e plane)) (writtenPlane w b c plane) (n ∙ sym (length-written w b c plane))
+    (λ i h.
+    let k : i < length plane = omega arith in
+    written-entry w b c (writtenPlane w b e plane) i (rw (length-written w b e plane) k)
+    ∙ bool-cases (inBlock w b i)
+    (λ t. rw t)
+    (λ f. rw f (written-entry w b e plane i k ∙ rw f))
+    ∙ sym (written-entry w b c plane i k))
 
 -- the tests of a block's rows and columns
 pub rows-yes : (b : Block) (y : ℕ) → b .row ≤ y → y < b .row + b .height → inRows b y ≡ true
@@ -77,9 +93,26 @@ columns-no : (b : Block) (x : ℕ) → (x < b .column) ⊎ (b .column + b .width
 columns-no b x (inl h) = rw (lt-leb (b .column) x h)
 columns-no b x (inr h) = bool-cases (leb (b .column) x) (λ e. rw (e, le-ltb x (b .column + b .width) h)) (λ e. rw e)
 
-and-no : (a b : Bool) → b ≡ false → (a && b) ≡ false
-and-no true b h = h
-and-no false b h = refl
+-- position x of row y lies in the block
+pub record Covers (b : Block) (y x : ℕ) : Type 0 where
+  pub top : b .row ≤ y
+  pub bottom : y < b .row + b .height
+  pub left : b .column ≤ x
+  pub right : x < b .column + b .width
+
+pub covers : (b : Block) (y x : ℕ) → (inRows b y && inColumns b x) ≡ true → Covers b y x
+covers b y x t =
+    let r = and-left (inRows b y) _ t in
+    let q = and-right (inRows b y) _ t in
+    record {
+      top = leb-true (b .row) y (and-left (leb (b .row) y) _ r);
+      bottom = ltb-true y (b .row + b .height) (and-right (leb (b .row) y) _ r);
+      left = leb-true (b .column) x (and-left (leb (b .column) x) _ q);
+      right = ltb-true x (b .column + b .width) (and-right (leb (b .column) x) _ q);
+    }
+
+pub covers-yes : (b : Block) (y x : ℕ) → Covers b y x → (inRows b y && inColumns b x) ≡ true
+covers-yes b y x h = and-true _ _ (rows-yes b y (h .top) (h .bottom)) (columns-yes b x (h .left) (h .right))
 
 -- a candidate's row lies within the candidate
 pub candidate-fits : (b : Block) (c : List ℕ) (y : ℕ) → length c ≡ b .width * b .height → b .row ≤ y → y < b .row + b .height → (y - b .row) * b .width + b .width ≤ length c
@@ -90,7 +123,7 @@ module _ (w : ℕ) (b : Block) (c plane : List ℕ) (y : ℕ) (fits : y * w + w 
   pub written-beside : (x : ℕ) → x < w → (x < b .column) ⊎ (b .column + b .width ≤ x) → getD (rowOf (writtenPlane w b c plane) w y) x 0 ≡ getD (rowOf plane w y) x 0
   written-beside x h o =
       getD-row 0 (writtenPlane w b c plane) w y x h ∙ written-at w b c plane y x h (omega arith)
-      ∙ rw (and-no (inRows b y) (inColumns b x) (columns-no b x o)) (sym (getD-row 0 plane w y x h))
+      ∙ rw (and-off (inRows b y) (inColumns b x) (columns-no b x o)) (sym (getD-row 0 plane w y x h))
 
   -- a column of the block's
   pub written-inside : (x : ℕ) → b .row ≤ y → y < b .row + b .height → b .column ≤ x → x < b .column + b .width → getD (rowOf (writtenPlane w b c plane) w y) x 0 ≡ getD c ((y - b .row) * b .width + (x - b .column)) 0
@@ -208,6 +241,12 @@ module _ (s : Settings) (v : ℕ) (b : Block) (c : List ℕ) (d : Depths) where
   unfolding written
   written-right = bool-cases (isRight v) (λ e. rw e (length-written (s .w) b c (d .right))) (λ e. rw e)
 
+-- a block written twice in one view
+written-twice : (s : Settings) (v : ℕ) (b : Block) (c e : List ℕ) (d : Depths) → written s v b c (written s v b e d) ≡ written s v b c d
+unfolding written
+written-twice s v b c e d =
+    bool-cases (isRight v) (λ t. rw (t, written-over (s .w) b c e (d .right))) (λ t. rw (t, written-over (s .w) b c e (d .left)))
+
 -- ---- the depths that stood in the block (document 02, card 3)
 
 pub length-old : (w : ℕ) (b : Block) (plane : List ℕ) → length (blockDepths w b plane) ≡ positions b
@@ -241,15 +280,10 @@ old-back w h b c plane e =
     written-at w b (blockDepths w b plane) (writtenPlane w b c plane) y x m (rw (length-written w b c plane) i)
     ∙ bool-cases (inRows b y && inColumns b x)
     (λ t.
-    let r = and-left (inRows b y) _ t in
-    let q = and-right (inRows b y) _ t in
-    let a = leb-true (b .row) y (and-left (leb (b .row) y) _ r) in
-    let z = ltb-true y (b .row + b .height) (and-right (leb (b .row) y) _ r) in
-    let a′ = leb-true (b .column) x (and-left (leb (b .column) x) _ q) in
-    let z′ = ltb-true x (b .column + b .width) (and-right (leb (b .column) x) _ q) in
-    let u : b .row + (y - b .row) ≡ y = omega arith in
-    let u′ : b .column + (x - b .column) ≡ x = omega arith in
-    rw t (old-at w b plane (y - b .row) (x - b .column) (omega arith) (omega arith) ∙ rw (u, u′)))
+    let at = covers b y x t in
+    let u : b .row + (y - b .row) ≡ y = omega (arith, at .top) in
+    let u′ : b .column + (x - b .column) ≡ x = omega (arith, at .left) in
+    rw t (old-at w b plane (y - b .row) (x - b .column) (omega (arith, at .top, at .bottom)) (omega (arith, at .left, at .right)) ∙ rw (u, u′)))
     (λ f. rw f (written-at w b c plane y x m i ∙ rw f))))
 
 -- the same of both views' planes
@@ -259,3 +293,7 @@ written-back s v b c d z =
     bool-cases (isRight v)
     (λ t. rw (t, old-back (s .w) (s .h) b c (d .right) (z .right ∙ mul-comm (s .w) (s .h))))
     (λ f. rw (f, old-back (s .w) (s .h) b c (d .left) (z .left ∙ mul-comm (s .w) (s .h))))
+
+-- Written where they stand, they change nothing.
+pub written-old : (s : Settings) (v : ℕ) (b : Block) (d : Depths) → DepthsSized s d → written s v b (oldDepths s v b d) d ≡ d
+written-old s v b d z = sym (written-twice s v b (oldDepths s v b d) (oldDepths s v b d) d) ∙ written-back s v b (oldDepths s v b d) d z

@@ -1,6 +1,5 @@
 -- The bound in runs: of document 01's, and of those with one journal.
---     ready-next, ready-shared          every record of a run has passed the tests of OPEN, or of the last accepted MOVE
---     session-within, shared-within     so each accepted GET and SET of one depth sample, at its own point of the run, is within the bound
+--     session-within, shared-within     each accepted GET and SET of one depth sample, at its own point of the run, is within the bound
 --     kept-within                       and again after the caller has emptied the journal
 use Prim.Native.Nat.{ℕ, _≤_}
 use mathlib.Core.Path.{_≡_, sym, subst}
@@ -18,14 +17,14 @@ use Rattle.model.specs.Blocks.{changeOf}
 use Rattle.model.specs.Journals.{emptied}
 use Rattle.model.specs.Refusals.{numberOf, ownThen, savingThen}
 use Rattle.model.specs.Promises.{OpenPost}
-use Rattle.run.specs.Run.{Call, Event, Run, leaves, Plain, plain, plainNumber, plainAccepted, plainNext, plainAnswer, plainChange, plainReply, plainEvent, plainEvents}
+use Rattle.run.specs.Run.{Call, Event, Run, leaves, Plain, plain, plainNumber, plainNext, plainAnswer, plainChange, plainReply, plainEvent, plainEvents}
 use Rattle.run.specs.Run.Call.{get, set, move}
-use Rattle.run.specs.Shared.{SharedCall, SharedRun, SharedPlain, opened, standsAs, sharedNumber, accepted, sharedNext, sharedChange, sharedReply, sharedEvent, sharedEvents, sharedEnd}
+use Rattle.run.specs.Shared.{SharedCall, SharedRun, SharedPlain, opened, standsAs, sharedNumber, sharedNext, sharedChange, sharedReply, sharedEvent, sharedEvents, sharedEnd}
 use Rattle.run.specs.Shared.SharedCall.{get as shared-get, set as shared-set, takeBack, move as shared-move}
-use Rattle.run.proofs.Steps.{Ready, ready-written, ready-moved}
-use Rattle.run.proofs.Calls.{fill-ready, chosen, set-own}
-use Rattle.run.proofs.Run.{session-run}
-use Rattle.run.proofs.Shared.{ready-turn, shared-run, shared-ready, kept-run}
+use Rattle.run.proofs.Steps.{Ready}
+use Rattle.run.proofs.Calls.{fill-ready, set-own}
+use Rattle.run.proofs.Run.{ready-next, session-run}
+use Rattle.run.proofs.Shared.{ready-turn, ready-shared, shared-run, shared-ready, kept-run}
 use Rattle.reach.specs.Reach.{OneDepth, reachOf}
 use Rattle.reach.specs.Runs.{CallWithin, AllWithin, SharedWithin, AllSharedWithin}
 use Rattle.reach.proofs.Change.{change-within}
@@ -48,12 +47,6 @@ call-within r ok (get v b c x) = answer-within r ok v b c x 0
 call-within r ok (set v b c x j) = answer-within r ok v b c x (savingThen (r .settings) b j 0)
 call-within r ok (move to reference j) = tt
 
-ready-next : (r : Plain) → Ready r → (k : Call) → Ready (plainNext r k)
-unfolding plainNext plainAccepted plainNumber
-ready-next r ok (get v b c x) = chosen Ready (plainNumber r (get v b c x)) r r (λ z. ok) (λ z. ok)
-ready-next r ok (set v b c x j) = chosen Ready (plainNumber r (set v b c x j)) _ r (λ z. ready-written r ok v b (filled b c x)) (λ z. ok)
-ready-next r ok (move to reference j) = chosen Ready (plainNumber r (move to reference j)) _ r (λ z. ready-moved r ok to reference j z) (λ z. ok)
-
 plain-within : (r : Plain) → Ready r → (ks : List Call) → AllWithin r ks (plainEvents r ks)
 unfolding AllWithin plainEvents
 plain-within r ok [] = tt
@@ -67,15 +60,6 @@ shared-call-within r ok (shared-get v b c x) = answer-within (standsAs r) (ready
 shared-call-within r ok (shared-set v b c x) = answer-within (standsAs r) (ready-turn (r .start) ok (r .standing)) v b c x (savingThen (r .start .settings) b (r .journal) 0)
 shared-call-within r ok takeBack = tt
 shared-call-within r ok (shared-move to reference) = tt
-
-ready-shared : (r : SharedPlain) → Ready (r .start) → (k : SharedCall) → Ready (sharedNext r k .start)
-unfolding sharedNext accepted sharedNumber
-ready-shared r ok (shared-get v b c x) = chosen (λ (y : SharedPlain). Ready (y .start)) (sharedNumber r (shared-get v b c x)) _ r (λ z. ok) (λ z. ok)
-ready-shared r ok (shared-set v b c x) = chosen (λ (y : SharedPlain). Ready (y .start)) (sharedNumber r (shared-set v b c x)) _ r (λ z. ok) (λ z. ok)
-ready-shared r ok takeBack = chosen (λ (y : SharedPlain). Ready (y .start)) (sharedNumber r takeBack) _ r (λ z. ok) (λ z. ok)
-ready-shared r ok (shared-move to reference) =
-    chosen (λ (y : SharedPlain). Ready (y .start)) (sharedNumber r (shared-move to reference)) _ r
-    (λ z. ready-moved (standsAs r) (ready-turn (r .start) ok (r .standing)) to reference (r .journal) z) (λ z. ok)
 
 record-within : (r : SharedPlain) → Ready (r .start) → (ks : List SharedCall) → AllSharedWithin r ks (sharedEvents r ks)
 unfolding AllSharedWithin sharedEvents

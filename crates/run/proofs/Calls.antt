@@ -35,7 +35,7 @@ use Rattle.model.proofs.Journals.{saving-sides, taking-sides}
 use Rattle.model.proofs.Readings.{sound-read}
 use Rattle.model.proofs.Promises.{edit-settings}
 use Rattle.run.specs.Run.{Reply, Event, Plain, plain, replyOf, leaves, picturesAfter, moveNumber, plainAnswer, plainState, Local, Refuses, Edits, Moves, OfMove}
-use Rattle.run.proofs.Steps.{Ready, ready, ready-written, ready-common, ready-move, ready-moved, changeOf-total, state-total, local-written}
+use Rattle.run.proofs.Steps.{Ready, ready, ready-written, ready-common, ready-move, ready-moved, changeOf-total, state-total, state-sound, local-written}
 
 -- ---- OPEN and MOVE
 
@@ -200,7 +200,8 @@ module _ (r : Plain) (ok : Ready r) where
   F = fresh s p d
 
   sound : Sound S p d F
-  sound = record { held = sym (fresh-total s _ p d); total = sym (freshTotal-total s _ p d) }
+  unfolding plainState
+  sound = state-sound r refl
 
   pub sound-as-read : Sound S p d (readHeld F)
   sound-as-read = sound-read S p d (ok .depths) (ok .share) F sound

@@ -3,6 +3,7 @@
 --     halted-as-opened     what a run leaves is what a fresh OPEN leaves, with the settings and reference of the last accepted MOVE
 --     halted-opens         and such an OPEN is accepted
 --     halted-sound         what a run leaves is sound as GET reads it
+--     ready-next           every record of a run has passed the tests of OPEN, or of the last accepted MOVE
 --     halts                a run halted after any of its calls is a run
 use Prim.Native.Nat.{ℕ, zero, suc, _*_, _<_}
 use mathlib.Core.Path.{_≡_, refl, ap, sym, _∙_, subst}
@@ -20,7 +21,7 @@ use Rattle.model.proofs.Refusals.{HeldOf, own-before, own-usual}
 use Rattle.run.specs.Run.{Call, Event, Run, leaves, Plain, plain, plainNumber, plainAccepted, plainNext, plainJournal, plainChange, plainReply, plainState, plainEvent, plainEvents, plainEnd, Kept, AllKept, Usual, AllUsual, RunPost, stateAfter}
 use Rattle.run.specs.Run.Call.{get, set, move}
 use Rattle.run.specs.Run.Run.{halted, got, wrote, moved}
-use Rattle.run.proofs.Steps.{Ready, ready-open}
+use Rattle.run.proofs.Steps.{Ready, ready-open, ready-written, ready-moved}
 use Rattle.run.proofs.Calls.{fill-ready, fill-leaves, chosen, next-pictures, either, unless-either, move-usual, set-own, Done, event-same, done-reply, done-after, done-journal, done-ready, sound-as-read, get-done, set-done, move-done, edit-kept, move-kept}
 
 -- the numbers of a call, by the record
@@ -32,6 +33,13 @@ call-usual r (set v b c x j) =
     either U (own-before (r .settings) v b c (length x)) (savingThen (r .settings) b j 0) (inl (own-usual (r .settings) v b c (length x)))
     (unless-either U (journalOk (r .settings) j) 13 _ (inr (inl refl)) (unless-either U (roomOk b j) 11 0 (inr (inr refl)) (inl (inl refl))))
 call-usual r (move to reference j) = move-usual (Usual (move to reference j)) (λ n u. inl u) (r .settings) to reference j (λ t. inr refl)
+
+-- what OPEN, or the last accepted MOVE, has tested holds after a call too
+pub ready-next : (r : Plain) → Ready r → (k : Call) → Ready (plainNext r k)
+unfolding plainNext plainAccepted plainNumber
+ready-next r ok (get v b c x) = chosen Ready (plainNumber r (get v b c x)) r r (λ z. ok) (λ z. ok)
+ready-next r ok (set v b c x j) = chosen Ready (plainNumber r (set v b c x j)) _ r (λ z. ready-written r ok v b (filled b c x)) (λ z. ok)
+ready-next r ok (move to reference j) = chosen Ready (plainNumber r (move to reference j)) _ r (λ z. ready-moved r ok to reference j z) (λ z. ok)
 
 -- ---- the list
 

@@ -8,6 +8,7 @@
 --     shared-halts         such a run halted after any of its calls is one
 --     get-next             a GET leaves the plain record as it was
 --     ready-turn           what OPEN has tested holds with any SETs standing
+--     ready-shared         and after any call
 use Prim.Native.Nat.{ℕ, zero, suc, _*_, _<_}
 use mathlib.Core.Path.{_≡_, refl, ap, sym, _∙_, subst}
 use mathlib.Core.Bool.{Bool, cond}
@@ -35,7 +36,7 @@ use Rattle.run.specs.Run.{Event, leaves, Plain, plain, plainState, OfMov
 use Rattle.run.specs.Shared.{SharedCall, SharedRun, Standing, SharedPlain, inTurn, struck, opened, withStanding, standsAs, plainTotal, sharedNumber, accepted, sharedNext, sharedChange, sharedReply, sharedEvent, sharedEvents, sharedEnd, SharedKept, AllSharedKept, Found, stackAfter, Restores, AllRestore, SharedUsual, AllSharedUsual, SharedPost, journalAfter}
 use Rattle.run.specs.Shared.SharedCall.{get, set, takeBack, move}
 use Rattle.run.specs.Shared.SharedRun.{halted, got, wrote, took, moved}
-use Rattle.run.proofs.Steps.{Ready, ready-open, ready-written}
+use Rattle.run.proofs.Steps.{Ready, ready-open, ready-written, ready-moved}
 use Rattle.run.proofs.Calls.{fill-ready, fill-leaves, fill-words, chosen, next-pictures, either, unless-either, move-usual, set-own, Done, by-number, event-same, done-reply, done-as, sound-as-read, get-done, set-done, take-done, move-done, edit-kept, move-kept}
 use Rattle.run.proofs.Ledger.{Ledger, ledger-ok, taking-none, taking-some, ledger-opened, ledger-saved, ledger-taken, taken-restores, taken-inside}
 
@@ -45,6 +46,16 @@ pub ready-turn : (r : Plain) → Ready r → (ks : List Standing) → Ready (wit
 unfolding inTurn
 ready-turn r ok [] = ok
 ready-turn r ok (k ∷ ks) = ready-written (withStanding r ks) (ready-turn r ok ks) (k .view) (k .block) (k .depths)
+
+-- and after a call, with what is drawn then
+pub ready-shared : (r : SharedPlain) → Ready (r .start) → (k : SharedCall) → Ready (sharedNext r k .start)
+unfolding sharedNext accepted sharedNumber
+ready-shared r ok (get v b c x) = chosen (λ (y : SharedPlain). Ready (y .start)) (sharedNumber r (get v b c x)) _ r (λ z. ok) (λ z. ok)
+ready-shared r ok (set v b c x) = chosen (λ (y : SharedPlain). Ready (y .start)) (sharedNumber r (set v b c x)) _ r (λ z. ok) (λ z. ok)
+ready-shared r ok takeBack = chosen (λ (y : SharedPlain). Ready (y .start)) (sharedNumber r takeBack) _ r (λ z. ok) (λ z. ok)
+ready-shared r ok (move to reference) =
+    chosen (λ (y : SharedPlain). Ready (y .start)) (sharedNumber r (move to reference)) _ r
+    (λ z. ready-moved (standsAs r) (ready-turn (r .start) ok (r .standing)) to reference (r .journal) z) (λ z. ok)
 
 -- the session as the plain record has it
 abbrev session : SharedPlain → State

@@ -2,6 +2,7 @@
 --     ready, ready-written, ready-moved      every record of a run has passed OPEN's tests
 --     ready-common, ready-open, ready-move   so that 1 to 4 and 20 never apply, a fresh OPEN of it is accepted, and MOVE goes by what is new
 --     state-total                            what is drawn is the same whatever the total was
+--     state-sound                            the session of a record is sound
 --     limit-fresh                            the limits of a fresh drawing, entry by entry
 --     local-written                          a written block changes no more than document 01 allows
 use Prim.Native.Nat.{ℕ, _*_, _<_, _≤_}
@@ -16,11 +17,12 @@ use Rattle.model.specs.declared.Block.{Block}
 use Rattle.model.specs.Lists.{entryAt}
 use Rattle.model.specs.Views.{isRight}
 use Rattle.model.specs.Marks.{markBytes}
-use Rattle.model.specs.Planes.{Pictures, Depths, View, Held, area, withTotal, withSeat, withReference, depthsOf}
+use Rattle.model.specs.Planes.{Pictures, Depths, View, Held, State, area, withTotal, withSeat, withReference, depthsOf}
 use Rattle.model.specs.Fresh.{freshRow, freshView, shownAt, freshSample, freshCombined, fresh, freshTotal}
 use Rattle.model.specs.Blocks.{inBlock, written, changeOf}
 use Rattle.model.specs.Span.{viewPlace, spanHas, limitMoves}
 use Rattle.model.specs.Refusals.{unless, sizeOk, planesSized, picturesSized, tablesOk, wordsOk, pictureOk, picturesOk, commonThen, openNumber}
+use Rattle.model.specs.Promises.{Sound}
 use Rattle.model.proofs.Choice.{bool-cases, and-left, and-right}
 use Rattle.model.proofs.Lists.{getD-row, getD-listOf}
 use Rattle.model.proofs.Fresh.{DepthsSized, fresh-total, freshTotal-total, row-fresh-samples, row-fresh-fronts, row-fresh-limits, mark-fresh, row-fresh-combined, length-fresh-samples, length-fresh-fronts, length-fresh-limits, length-fresh-marks, length-fresh-combined, view-fresh}
@@ -38,6 +40,16 @@ changeOf-total s t p d v b c = rw (written-total s t v b c d, freshTotal-total s
 pub state-total : (s : Settings) (t : ℕ) (p : Pictures) (d : Depths) → plainState (plain (withTotal s t) p d) ≡ plainState (plain s p d)
 unfolding plainState
 state-total s t p d = rw (fresh-total s t p d, freshTotal-total s t p d)
+
+-- the session of any record is its fresh drawing
+pub state-sound : (r : Plain) {st : State} → st ≡ plainState r → Sound (st .settings) (r .pictures) (st .depths) (st .held)
+unfolding plainState
+state-sound r e =
+    rw e
+    (record {
+      held = sym (fresh-total (r .settings) _ (r .pictures) (r .depths));
+      total = sym (freshTotal-total (r .settings) _ (r .pictures) (r .depths));
+    })
 
 -- ---- what has been tested
 

@@ -1,0 +1,109 @@
+-- A SET of the depths that a block has.
+--     no-change, no-edit          it changes nothing of the total, and nothing of the record
+--     get-no-op, set-no-op          so of the promises of GET and SET, on a sound session
+--     session-no-op, shared-no-op   and of every call of a run
+use Prim.Native.Nat.{ℕ}
+use mathlib.Core.Path.{_≡_, sym, ap, _∙_}
+use mathlib.Core.List.{List, [], _∷_}
+use lib.IntN.{pos, _-ℤ_, +ℤ-invr}
+use lib.ListN.{length}
+use borrow.Author.Tests.{eq-eqb}
+use Rattle.model.specs.declared.Settings.{Settings}
+use Rattle.model.specs.declared.Block.{Block}
+use Rattle.model.specs.declared.Candidate.{Candidate}
+use Rattle.model.specs.declared.Opened.{Opened}
+use Rattle.model.specs.declared.Trial.{Trial}
+use Rattle.model.specs.declared.Edited.{Edited}
+use Rattle.model.specs.Planes.{Pictures, Depths, Held, State, readHeld}
+use Rattle.model.specs.Candidates.{filled}
+use Rattle.model.specs.Blocks.{oldDepths, changeOf}
+use Rattle.model.specs.Refusals.{numberOf}
+use Rattle.model.specs.Promises.{OpenPost, Sound, GetPost, SetPost}
+use Rattle.model.proofs.Fresh.{DepthsSized}
+use Rattle.model.proofs.Written.{written-old}
+use Rattle.model.proofs.Refusals.{common-facts, early-common, call-zero}
+use Rattle.run.specs.Run.{Call, Event, Run, leaves, Plain, plain, plainNumber, plainAccepted, plainNext, plainAnswer, plainChange, plainReply, plainState, plainEvent, plainEvents}
+use Rattle.run.specs.Run.Call.{get, set, move}
+use Rattle.run.specs.Shared.{SharedCall, SharedRun, SharedPlain, inTurn, opened, standsAs, plainTotal, sharedNumber, accepted, sharedNext, sharedChange, sharedReply, sharedEvent, sharedEvents}
+use Rattle.run.specs.Shared.SharedCall.{get as shared-get, set as shared-set, takeBack, move as shared-move}
+use Rattle.run.proofs.Steps.{Ready}
+use Rattle.run.proofs.Calls.{fill-ready, fill-leaves, edited}
+use Rattle.run.proofs.Run.{ready-next, session-run}
+use Rattle.run.proofs.Shared.{ready-turn, ready-shared, shared-run}
+use Rattle.order.specs.NoOp.{BlockHas, CallNoOp, AllNoOps, SharedNoOp, AllSharedNoOps}
+use Rattle.order.proofs.Orders.{sound-state, set-state, set-change, tested}
+
+-- ---- the record
+
+module _ (r : Plain) (sized : DepthsSized (r .settings) (r .depths)) (v : ℕ) (b : Block) {c : List ℕ} (has : c ≡ oldDepths (r .settings) v b (r .depths)) where
+  pub no-edit : edited r v b c ≡ r
+  no-edit = ap (plain (r .settings) (r .pictures)) (rw has (written-old (r .settings) v b (r .depths) sized))
+
+  pub no-change : changeOf (r .settings) (r .pictures) (r .depths) v b c ≡ pos 0
+  unfolding changeOf
+  no-change = ap (λ (y : Plain). pos (plainTotal y) -ℤ pos (plainTotal r)) no-edit ∙ +ℤ-invr (pos (plainTotal r))
+
+-- ---- GET and SET on a sound session
+
+module _ (s : Settings) (p : Pictures) (d : Depths) (h : Held) (v : ℕ) (b : Block) (c : Candidate) (x : List ℕ) (has : filled b c x ≡ oldDepths s v b d) where
+  pub get-no-op : (t : Trial) → GetPost s p d h v b c x t → Sound s p d (readHeld h) → numberOf (t .refusal) ≡ 0 → t .change ≡ pos 0
+  get-no-op t post sound z =
+      let e = call-zero s p d h v b c (length x) (post .found) 0 (sym (post .number) ∙ z) in
+      post .change z ∙ post .decided e sound ∙ no-change (plain s p d) (common-facts s p d h (early-common s p d h v b c (length x) e) .depths) v b has
+
+  pub set-no-op : (e : Depths) (g : Held) (j k : List ℕ) (t : Edited) → SetPost s p d e h g j k v b c x t → Sound s p d h → numberOf (t .refusal) ≡ 0 → (t .change ≡ pos 0) × (leaves (t .settings) e g ≡ leaves s d h)
+  set-no-op e g j k t post sound z =
+      let sized = tested s p d e h g j k v b c x t post z sound .depths in (
+        set-change s p d e h g j k v b c x t post z sound ∙ no-change (plain s p d) sized v b has,
+        set-state s p d e h g j k v b c x t post z sound ∙ ap plainState (no-edit (plain s p d) sized v b has) ∙ sym (sound-state p (leaves s d h) sound),
+      )
+
+-- ---- a run
+
+-- a call whose number by the record is n, and which leaves the record `next`
+answer-no-op :
+    (r : Plain) → Ready r → (v : ℕ) (b : Block) (c : List ℕ) (n : ℕ) (next : Plain) → (n ≡ 0 → BlockHas (plainState r) v b c → next ≡ r) → n ≡ 0 → BlockHas (plainState r) v b c →
+    (plainAnswer n (changeOf (r .settings) (r .pictures) (r .depths) v b c) .change ≡ pos 0) × (plainState next ≡ plainState r)
+unfolding plainState plainAnswer
+answer-no-op r ok v b c n next stays z has = (rw (eq-eqb n 0 z) (no-change r (ok .depths) v b has), ap plainState (stays z has))
+
+call-no-op : (r : Plain) → Ready r → (k : Call) → CallNoOp (plainState r) k (plainEvent r k)
+unfolding plainReply plainNext plainNumber plainAccepted plainChange plainState plainAnswer
+call-no-op r ok (get v b c x) = answer-no-op r ok v b (filled b c x) _ _ (λ z has. rw (eq-eqb _ 0 z))
+call-no-op r ok (set v b c x j) = answer-no-op r ok v b (filled b c x) _ _ (λ z has. rw (eq-eqb _ 0 z) (no-edit r (ok .depths) v b has))
+call-no-op r ok (move to reference j) = tt
+
+plain-no-op : (r : Plain) → Ready r → (ks : List Call) → AllNoOps (plainState r) ks (plainEvents r ks)
+unfolding AllNoOps plainEvents
+plain-no-op r ok [] = tt
+plain-no-op r ok (k ∷ ks) = (call-no-op r ok k, plain-no-op (plainNext r k) (ready-next r ok k) ks)
+
+shared-call-no-op : (r : SharedPlain) → Ready (r .start) → (k : SharedCall) → SharedNoOp (plainState (standsAs r)) k (sharedEvent r k)
+unfolding sharedReply sharedNext sharedNumber accepted sharedChange inTurn plainState plainAnswer
+shared-call-no-op r ok (shared-get v b c x) = answer-no-op (standsAs r) (ready-turn (r .start) ok (r .standing)) v b (filled b c x) _ _ (λ z has. rw (eq-eqb _ 0 z))
+shared-call-no-op r ok (shared-set v b c x) =
+    let now = ready-turn (r .start) ok (r .standing) in
+    answer-no-op (standsAs r) now v b (filled b c x) _ _ (λ z has. rw (eq-eqb _ 0 z) (no-edit (standsAs r) (now .depths) v b has))
+shared-call-no-op r ok takeBack = tt
+shared-call-no-op r ok (shared-move to reference) = tt
+
+record-no-op : (r : SharedPlain) → Ready (r .start) → (ks : List SharedCall) → AllSharedNoOps (plainState (standsAs r)) ks (sharedEvents r ks)
+unfolding AllSharedNoOps sharedEvents
+record-no-op r ok [] = tt
+record-no-op r ok (k ∷ ks) = (shared-call-no-op r ok k, record-no-op (sharedNext r k) (ready-shared r ok k) ks)
+
+-- ---- after an accepted OPEN
+
+module _ (s : Settings) (p : Pictures) (d : Depths) (h₀ h : Held) (j₀ j : List ℕ) (o : Opened) (post : OpenPost s p d h₀ h j₀ j o) (yes : numberOf (o .refusal) ≡ 0) where
+  ready-first : Ready (plain s p d)
+  ready-first = fill-ready s s p d h₀ h j₀ j o post yes
+
+  leaves-first : leaves (o .settings) d h ≡ plainState (plain s p d)
+  leaves-first = fill-leaves s s p d h₀ h j₀ j o post yes
+
+  pub session-no-op : {cs : List Call} {es : List Event} {last : State} → Run p (leaves (o .settings) d h) cs es last → AllNoOps (leaves (o .settings) d h) cs es
+  session-no-op {cs = cs} run = rw (leaves-first, session-run s p d h₀ h j₀ j o post yes run .events) (plain-no-op (plain s p d) ready-first cs)
+
+  pub shared-no-op : {cs : List SharedCall} {es : List Event} {last : State} {end : List ℕ} → SharedRun p (leaves (o .settings) d h) j cs es last end → AllSharedNoOps (leaves (o .settings) d h) cs es
+  unfolding inTurn
+  shared-no-op {cs = cs} run = rw (leaves-first, shared-run s p d h₀ h j₀ j o post yes run .events) (record-no-op (opened (plain s p d) j₀) ready-first cs)

@@ -1,0 +1,1 @@
+// The order of separate edits: no code.
