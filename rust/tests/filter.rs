@@ -5,7 +5,7 @@ mod paper;
 mod random;
 
 use luphwezane::{render, Settings, View};
-use paper::{reversed, Kind, LeftRow};
+use paper::{stored, Kind, LeftRow};
 use random::Random;
 use std::collections::BTreeSet;
 
@@ -72,15 +72,6 @@ fn settings(w: usize) -> Settings {
     let table = std::array::from_fn(|d| d as u16);
     let (w, widest_gap, torn_distance) = (w as u32, 8, 1);
     Settings { w, h: 1, left: table, right: table, share: 0, tolerance: 0, widest_gap, torn_distance, total: 0 }
-}
-
-/// A row as it is stored.
-fn stored<T: Copy>(view: View, row: &[T]) -> Vec<T> {
-    if view == View::Left {
-        row.to_vec()
-    } else {
-        reversed(row)
-    }
 }
 
 /// The k of a position that a smooth pair shows.

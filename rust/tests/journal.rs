@@ -9,7 +9,7 @@ mod paper;
 mod random;
 
 use luphwezane::{lent, Block, Candidate, Pictures, Refusal, Report, Session, Settings, View};
-use paper::{Drawing, Record};
+use paper::{both, Drawing, Record};
 use random::{Guarded, GuardedPlanes, Random, Scene, Tried};
 use std::collections::BTreeSet;
 
@@ -113,10 +113,7 @@ impl<'a> Held<'a> {
         journal.compare();
         assert!(self.planes.are_intact(), "a guard was written");
         assert_eq!(self.settings, Settings { total: self.fresh.total, ..self.seat });
-        let (planes, fresh) = (self.planes.shared(), &self.fresh);
-        assert_eq!(planes.depths, self.record());
-        assert_eq!((planes.samples, planes.combined), (both(&fresh.samples), &fresh.combined[..]));
-        assert_eq!((planes.fronts, planes.limits, planes.marks), (both(&fresh.fronts), both(&fresh.limits), both(&fresh.marks)));
+        assert_eq!(paper::entries(&self.planes.shared()), paper::entries(&self.fresh.planes(self.record())));
     }
 
     /// The record with these depths; how its total changes.
@@ -172,10 +169,7 @@ impl<'a> Held<'a> {
     }
 
     fn any_edit(&self, random: &mut Random) -> (View, Block, Tried) {
-        let view = random.pick(&View::BOTH);
-        let depths = &self.record[view as usize];
-        let block = random::edited_block(random, &self.settings, view as usize, depths);
-        (view, block, random::candidate(random, self.settings.w as usize, depths, block))
+        random::edit(random, &self.settings, self.record())
     }
 
     /// A SET of any candidate for any block.
@@ -183,10 +177,6 @@ impl<'a> Held<'a> {
         let (view, block, tried) = self.any_edit(random);
         self.set(journal, view, block, tried.candidate())
     }
-}
-
-fn both<T>(pair: &[Vec<T>; 2]) -> [&[T]; 2] {
-    [&pair[0], &pair[1]]
 }
 
 fn block(column: u32, row: u32, width: u32, height: u32) -> Block {

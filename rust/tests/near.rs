@@ -3,8 +3,8 @@
 
 mod paper;
 
-use luphwezane::{render, Block, Candidate, Pictures, Report, Session, Settings, View};
-use paper::{reversed, Drawing, Kind, LeftRow, Pixel};
+use luphwezane::{render, Candidate, Pictures, Report, Session, Settings, View};
+use paper::{block_of, rows, stored, Drawing, Kind, LeftRow, Pixel};
 use std::collections::BTreeSet;
 
 const TEXTURE: [u16; 8] = [10, 20, 30, 40, 50, 60, 70, 80];
@@ -16,29 +16,7 @@ fn table() -> [u16; 256] {
 
 /// Settings of a row whose combined picture is what the view shows, but for its holes.
 fn settings(view: View, w: usize, table: [u16; 256]) -> Settings {
-    let share = if view == View::Left { 0 } else { 64 };
-    Settings { w: w as u32, h: 1, left: table, right: table, share, tolerance: 255, widest_gap: 8, torn_distance: 1, total: 0 }
-}
-
-/// A row as it is stored.
-fn stored<T: Copy>(view: View, row: &[T]) -> Vec<T> {
-    if view == View::Left {
-        row.to_vec()
-    } else {
-        reversed(row)
-    }
-}
-
-/// The block of columns a to b.
-fn block(view: View, w: usize, a: usize, b: usize) -> Block {
-    let column = if view == View::Left { a } else { w - 1 - b };
-    Block { column: column as u32, row: 0, width: (b - a + 1) as u32, height: 1 }
-}
-
-/// Every row of w depths among these; the first column changes fastest.
-fn rows(w: usize, values: &[u8]) -> impl Iterator<Item = Vec<u8>> + '_ {
-    let digit = |n: usize, c: usize| n / values.len().pow(c as u32) % values.len();
-    (0..values.len().pow(w as u32)).map(move |n| (0..w).map(|c| values[digit(n, c)]).collect())
+    Settings { left: table, right: table, ..paper::row_settings(view, w) }
 }
 
 /// Samples, marks and front depths of a row, drawn by the library and by the independent renderer.
@@ -174,7 +152,7 @@ fn compare(session: &Session, view: View, fresh: &Drawing) {
 fn edits_by_hand() {
     for view in View::BOTH {
         for (depths, sample) in [([0, 0, 3, 0, 0, 15, 0, 0], 60), ([0, 0, 3, 0, 0, 15, 19, 0], 70)] {
-            let (stage, block) = (Stage::new(view, table(), &TEXTURE), block(view, 8, 2, 2));
+            let (stage, block) = (Stage::new(view, table(), &TEXTURE), block_of(view, 8, 2, 2));
             let mut session = stage.open(&depths);
             let shown = |session: &Session| stored(view, session.planes().combined)[1];
             let change = (sample - 20_i64).pow(2);
@@ -213,7 +191,7 @@ fn every_small_edit() {
                 let mut session = stage.open(depths);
                 compare(&session, view, &drawings[n]);
                 for (a, b) in (0..w).flat_map(|a| (a..w.min(a + widest)).map(move |b| (a, b))) {
-                    let (block, part) = (block(view, w, a, b), values.len().pow(a as u32));
+                    let (block, part) = (block_of(view, w, a, b), values.len().pow(a as u32));
                     let own = stored(view, &depths[a..=b]);
                     for k in 0..values.len().pow((b - a + 1) as u32) {
                         // The row's number with the candidate's digits at a to b.
@@ -264,7 +242,7 @@ fn farthest_columns() {
                     let mut after = depths.clone();
                     after[a..=b].fill(depth);
                     let change = stage.drawing(&after).total as i64 - fresh.total as i64;
-                    let answer = session.get(view, block(view, w, a, b), Candidate::Full(&after[a..=b]));
+                    let answer = session.get(view, block_of(view, w, a, b), Candidate::Full(&after[a..=b]));
                     assert_eq!(answer, Ok(change), "{view:?}, {near}, {next}, {left}, {a} to {b}, {depth}");
                     let [old, new] = [&depths, &after].map(|depths| LeftRow::new(&stage.settings, view as usize, &texture, depths));
                     reached.extend(distance(&old, &new, a, b).map(|far| (view as usize, far)));

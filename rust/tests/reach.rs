@@ -11,7 +11,7 @@ mod paper;
 mod random;
 
 use luphwezane::{Block, Candidate, Pictures, Session, Settings, View};
-use paper::{reversed, LeftRow, Reach, WHITE as W};
+use paper::{block_of, left_first, row_settings, rows, stored, LeftRow, Reach, WHITE as W};
 use random::{Random, Scene};
 use std::cell::RefCell;
 use std::collections::{BTreeMap, BTreeSet};
@@ -126,35 +126,6 @@ impl Known {
     }
 }
 
-/// A row as it is stored.
-fn stored<T: Copy>(view: View, row: &[T]) -> Vec<T> {
-    if view == View::Left {
-        row.to_vec()
-    } else {
-        reversed(row)
-    }
-}
-
-/// What belongs to the view and what belongs to the other, the left view's first.
-fn left_first<T>(view: View, own: T, other: T) -> [T; 2] {
-    if view == View::Left {
-        [own, other]
-    } else {
-        [other, own]
-    }
-}
-
-/// Settings of a row whose combined picture is what the view shows, but for its holes. Entry d of the tables is d.
-fn settings(view: View, w: usize) -> Settings {
-    let (table, share) = (std::array::from_fn(|d| d as u16), if view == View::Left { 0 } else { 64 });
-    Settings { w: w as u32, h: 1, left: table, right: table, share, tolerance: 255, widest_gap: 8, torn_distance: 1, total: 0 }
-}
-
-/// The block of column c of one row.
-fn block(view: View, w: usize, c: usize) -> Block {
-    Block { column: if view == View::Left { c } else { w - 1 - c } as u32, row: 0, width: 1, height: 1 }
-}
-
 /// A row of one view in which the depth of a column is replaced. The other view has depths of 0: it shows its texture, and the
 /// combined picture has it where this view has a hole.
 #[derive(Clone, Copy)]
@@ -183,7 +154,7 @@ impl Example<'_> {
         let (most, old) = (self.reach.most_change() as i64, self.depths[self.column]);
         assert!(most > 0);
         for (view, up) in View::BOTH.into_iter().flat_map(|view| [(view, true), (view, false)]) {
-            let (settings, block) = (with_table(view), block(view, self.depths.len(), self.column));
+            let (settings, block) = (with_table(view), block_of(view, self.depths.len(), self.column, self.column));
             let [before, after] = self.shown.map(|row| stored(view, row));
             let mut session = self.open(&settings, view, self.shown[usize::from(!up)]);
             let own = |session: &Session| session.planes().depths[view as usize].to_vec();
@@ -335,7 +306,7 @@ const BELOW: [Example; 4] = [
 #[test]
 fn edits_that_reach_the_bound() {
     for example in [QUARTER, LATER, THREE, LIMIT, BEFORE, LAST, WHOLE, ONE].iter().chain(&BELOW) {
-        example.assert_reached(|view| settings(view, example.depths.len()));
+        example.assert_reached(|view| row_settings(view, example.depths.len()));
     }
 }
 
@@ -367,7 +338,7 @@ fn edits_that_show_nothing() {
         assert!(reach.length() <= 0 && reach.most_change() == 0);
         let example = Example { depths, texture, other: &[0, W, 0, W], column, depth, reach, shown: [&[], &[]] };
         for view in View::BOTH {
-            let (settings, block) = (settings(view, w), block(view, w, column));
+            let (settings, block) = (row_settings(view, w), block_of(view, w, column, column));
             for reference in [[0; 4], [W; 4], [0, W, 0, W], [W, 0, W, 0]] {
                 let session = example.open(&settings, view, &reference);
                 let planes = session.planes();
@@ -398,14 +369,8 @@ fn the_farthest_reach() {
         shown: [&texture, &other],
     };
     let table = std::array::from_fn(|d| if d == 255 { 1023 } else { 0 });
-    example.assert_reached(|view| Settings { left: table, right: table, ..settings(view, N) });
+    example.assert_reached(|view| Settings { left: table, right: table, ..row_settings(view, N) });
     assert_eq!(example.reach.most_change(), 257 * paper::WORST);
-}
-
-/// Every row of w entries among these; the first column changes fastest.
-fn rows<T: Copy>(w: usize, values: &[T]) -> Vec<Vec<T>> {
-    let digit = |n: usize, c: usize| n / values.len().pow(c as u32) % values.len();
-    (0..values.len().pow(w as u32)).map(|n| (0..w).map(|c| values[digit(n, c)]).collect()).collect()
 }
 
 /// Every edit of one column in every small row, with every picture of black and white; of the widest rows the other view is all
@@ -416,10 +381,10 @@ fn every_small_row() {
     let mut known = Known::default();
     let sizes: [(usize, &[u8]); 4] = [(1, &[0, 1, 2, 3, 4, 9]), (2, &[0, 2, 3, 4, 5, 9]), (3, &[0, 3, 5, 7, 11]), (4, &[0, 3, 8, 11])];
     for (view, (w, values)) in View::BOTH.into_iter().flat_map(|view| sizes.map(|size| (view, size))) {
-        let pictures = rows(w, &[0, W]);
+        let pictures: Vec<Vec<u16>> = rows(w, &[0, W]).collect();
         let others = if w < 4 { &pictures[..] } else { &[vec![0; w], vec![W; w]] };
         for (depth, tolerance) in [(0, 255), (4, 0)].into_iter().take(if w < 4 { 2 } else { 1 }) {
-            let (settings, around) = (Settings { tolerance, ..settings(view, w) }, vec![depth; w]);
+            let (settings, around) = (Settings { tolerance, ..row_settings(view, w) }, vec![depth; w]);
             for depths in rows(w, values) {
                 let row = LeftRow::new(&settings, view as usize, &[], &depths);
                 let edits: Vec<(usize, u8, Reach)> =
@@ -430,7 +395,7 @@ fn every_small_row() {
                         let pictures = Pictures { textures: left_first(view, own, other), reference };
                         let session = Session::open(&settings, &pictures, left_first(view, &depths, &around)).expect("OPEN accepts it");
                         for &(c, depth, reach) in &edits {
-                            known.get(&session, view, block(view, w, c), Candidate::Flat(depth), reach);
+                            known.get(&session, view, block_of(view, w, c, c), Candidate::Flat(depth), reach);
                         }
                     }
                 }
@@ -469,7 +434,7 @@ impl Run {
             let plane = &self.depths[view as usize];
             for k in 0..(w + 2).min(10) {
                 let c = if k < 2 { k * (w - 1) } else { random.between(0, w - 1) };
-                let block = Block { row: random.between(0, h - 1) as u32, ..block(view, w, c) };
+                let block = Block { row: random.between(0, h - 1) as u32, ..block_of(view, w, c, c) };
                 let row = stored(view, &plane[block.row as usize * w..][..w]);
                 let row = LeftRow::new(&self.settings, view as usize, &[], &row);
                 let tried = random::candidate(random, w, plane, block);
@@ -487,12 +452,10 @@ impl Run {
     }
 
     fn set(&mut self, random: &mut Random) {
-        let view = random.pick(&View::BOTH);
-        let plane = &self.depths[view as usize];
-        let block = random::edited_block(random, &self.settings, view as usize, plane);
-        let tried = random::candidate(random, self.settings.w as usize, plane, block);
+        let depths = [&self.depths[0][..], &self.depths[1][..]];
+        let (view, block, tried) = random::edit(random, &self.settings, depths);
         self.session.set(view, block, tried.candidate()).expect("SET accepts it");
-        let depths = paper::written(&self.settings, [&self.depths[0], &self.depths[1]], view as usize, block, tried.candidate());
+        let depths = paper::written(&self.settings, depths, view as usize, block, tried.candidate());
         self.before.push(std::mem::replace(&mut self.depths, depths));
         self.last = "after SET";
     }
@@ -514,26 +477,13 @@ impl Run {
     }
 }
 
-/// Any scene, or a small one whose pictures are black and white, where much can change.
-fn scene(random: &mut Random, turn: u64) -> Scene {
-    if random.once_in(3) {
-        return Scene::new(random, turn);
-    }
-    let (w, h) = (random.between(1, 12), random.between(1, 3));
-    let mut scene = Scene::sized(random, w, h, turn);
-    for plane in scene.textures.iter_mut().chain([&mut scene.reference]) {
-        plane.iter_mut().for_each(|sample| *sample = random.pick(&[0, W]));
-    }
-    scene
-}
-
 const SESSIONS: u64 = 6000;
 
 #[test]
 fn random_sessions() {
     let known = RefCell::new(Known::default());
     random::sessions("reach", SESSIONS, |random, number| {
-        let (scene, known) = (scene(random, number), &mut *known.borrow_mut());
+        let (scene, known) = (Scene::stark(random, number), &mut *known.borrow_mut());
         let mut run = Run::open(&scene);
         run.gets(random, known);
         for _ in 0..random.between(2, 8) {

@@ -7,7 +7,7 @@ mod paper;
 mod random;
 
 use luphwezane::{lent, render, Block, Candidate, Pictures, Refusal, Report, Session, Settings, View};
-use paper::{reversed, Drawing, Kind, LeftRow};
+use paper::{left_first, rows, stored, Drawing, Kind, LeftRow};
 use random::{GuardedPlanes, Random, Scene, Tried};
 use std::collections::BTreeSet;
 
@@ -23,15 +23,6 @@ fn settings(w: usize, widest_gap: u8, torn_distance: u8) -> Settings {
 /// Every widest gap with every torn distance.
 fn numbers() -> impl Iterator<Item = (u8, u8)> {
     (4..=64).flat_map(|widest_gap| (0..=3).map(move |torn_distance| (widest_gap, torn_distance)))
-}
-
-/// A row as it is stored.
-fn stored<T: Copy>(view: View, row: &[T]) -> Vec<T> {
-    if view == View::Left {
-        row.to_vec()
-    } else {
-        reversed(row)
-    }
 }
 
 /// Samples, marks and front depths of a row, drawn by the library and by the independent renderer.
@@ -157,12 +148,6 @@ const SOME: [(u8, u8); 8] = [(4, 0), (4, 2), (5, 3), (7, 1), (10, 2), (15, 0), (
 
 const TEXTURE: [u16; 5] = [10, 200, 30, 400, 50];
 
-/// Every row of w depths among these; the first column changes fastest.
-fn rows(w: usize, values: &[u8]) -> impl Iterator<Item = Vec<u8>> + '_ {
-    let digit = |n: usize, c: usize| n / values.len().pow(c as u32) % values.len();
-    (0..values.len().pow(w as u32)).map(move |n| (0..w).map(|c| values[digit(n, c)]).collect())
-}
-
 /// Every small row: its last column, tears, hidden columns and near edges together.
 #[test]
 fn every_small_row() {
@@ -186,7 +171,7 @@ fn every_small_edit() {
         let settings = Settings { share, ..settings(W, widest_gap, torn_distance) };
         let texture = stored(view, &TEXTURE[..W]);
         let pictures = Pictures { textures: [&texture, &texture], reference: &TEXTURE[..W] };
-        let planes = |own: &[u8]| if view == View::Left { [own.to_vec(), vec![0; W]] } else { [vec![0; W], reversed(own)] };
+        let planes = |own: &[u8]| left_first(view, stored(view, own), vec![0; W]);
         let drawing = |own: &Vec<u8>| paper::drawing(&settings, &pictures, [&planes(own)[0], &planes(own)[1]]);
         let drawings: Vec<Drawing> = all.iter().map(drawing).collect();
         for (n, depths) in all.iter().enumerate() {
@@ -214,14 +199,8 @@ fn every_small_edit() {
 
 fn compare(session: &Session, fresh: &Drawing) {
     let planes = session.planes();
-    for v in 0..2 {
-        assert_eq!(planes.samples[v], fresh.samples[v]);
-        assert_eq!(planes.fronts[v], fresh.fronts[v]);
-        assert_eq!(planes.limits[v], fresh.limits[v]);
-        assert_eq!(planes.marks[v], fresh.marks[v]);
-    }
-    assert_eq!((planes.combined, session.total()), (&fresh.combined[..], fresh.total));
-    assert_eq!(session.check(), Report::Sound);
+    assert_eq!(paper::entries(&planes), paper::entries(&fresh.planes(planes.depths)));
+    assert_eq!((session.total(), session.check()), (fresh.total, Report::Sound));
 }
 
 /// A picture in which every shift shows.

@@ -288,10 +288,7 @@ impl Run {
     }
 
     fn any_edit(&self, random: &mut Random) -> (View, Block, Tried) {
-        let view = random.pick(&View::BOTH);
-        let depths = &self.record[view as usize];
-        let block = random::edited_block(random, &self.settings, view as usize, depths);
-        (view, block, random::candidate(random, self.settings.w as usize, depths, block))
+        random::edit(random, &self.settings, self.record())
     }
 
     /// Several candidates for one block: the best is set, or all are dropped.
@@ -322,23 +319,8 @@ impl Run {
     }
 
     fn any_refused(&mut self, random: &mut Random) {
-        let (view, mut block, mut candidate) = self.any_edit(random);
-        if random.once_in(2) {
-            candidate = random::refused_candidate(random, self.settings.w as usize, &self.record[view as usize], block);
-            return self.refused(view as u32, block, &candidate);
-        }
-        let mut view = view as u32;
-        match random.between(0, 4) {
-            0 => view = random.pick(&[2, 3, 255, 256, u32::MAX]),
-            1 => block.width = 0,
-            2 => block.height = 0,
-            3 => block.column = random.pick(&[self.settings.w, u32::MAX, u32::MAX - block.width + 1]),
-            _ => block.row = random.pick(&[self.settings.h, u32::MAX, u32::MAX - block.height + 1]),
-        }
-        if random.once_in(3) {
-            candidate.kind = random::kind(random);
-        }
-        self.refused(view, block, &candidate);
+        let (view, block, tried) = random::refused_edit(random, &self.settings, self.record());
+        self.refused(view, block, &tried);
     }
 
     fn call(&mut self, random: &mut Random) {

@@ -1,11 +1,12 @@
 //! The independent renderer: document 01 said again as plainly as it can be, each position drawn from its owner, the journal of
-//! card 3, the bound of card 4, and the seat of card 11.
+//! card 3, the bound of card 4, the separate edits of card 10, and the seat of card 11.
 //!
 //! It shares no code with the library and holds nothing between calls. It is slow on purpose: every question is answered
 //! by a fresh drawing of the whole picture.
 #![allow(dead_code)] // each test program uses its own part
 
-use luphwezane::{Block, Candidate, Pictures, Planes, Point, Regions, Report, Settings};
+use luphwezane::{Block, Candidate, Pictures, Planes, Point, Regions, Report, Settings, View};
+use std::fmt::Debug;
 
 /// The greatest sample (card 12).
 pub const WHITE: u16 = 1023;
@@ -172,6 +173,42 @@ pub fn reversed<T: Copy>(row: &[T]) -> Vec<T> {
     row.iter().rev().copied().collect()
 }
 
+/// A row as it is stored, from how the view reads it.
+pub fn stored<T: Copy>(view: View, row: &[T]) -> Vec<T> {
+    if view == View::Left {
+        row.to_vec()
+    } else {
+        reversed(row)
+    }
+}
+
+/// What belongs to the view and what belongs to the other, the left view's first.
+pub fn left_first<T>(view: View, own: T, other: T) -> [T; 2] {
+    if view == View::Left {
+        [own, other]
+    } else {
+        [other, own]
+    }
+}
+
+/// The block of columns a to b of one row, counted as the view reads it.
+pub fn block_of(view: View, w: usize, a: usize, b: usize) -> Block {
+    let column = if view == View::Left { a } else { w - 1 - b };
+    Block { column: column as u32, row: 0, width: (b - a + 1) as u32, height: 1 }
+}
+
+/// Settings of a row whose combined picture is what the view shows, but for its holes. Entry d of the tables is d.
+pub fn row_settings(view: View, w: usize) -> Settings {
+    let (table, share) = (std::array::from_fn(|d| d as u16), if view == View::Left { 0 } else { 64 });
+    Settings { w: w as u32, h: 1, left: table, right: table, share, tolerance: 255, widest_gap: 8, torn_distance: 1, total: 0 }
+}
+
+/// Every row of w entries among these; the first column changes fastest.
+pub fn rows<T: Copy>(w: usize, values: &[T]) -> impl Iterator<Item = Vec<T>> + '_ {
+    let digit = |n: usize, c: usize| n / values.len().pow(c as u32) % values.len();
+    (0..values.len().pow(w as u32)).map(move |n| (0..w).map(|c| values[digit(n, c)]).collect())
+}
+
 /// One row of view 0 or 1. The right view is the same rule over the row read backwards, its results written back in
 /// reverse.
 pub fn drawn_row(settings: &Settings, view: usize, texture: &[u16], depths: &[u8]) -> DrawnRow {
@@ -222,6 +259,25 @@ pub struct Drawing {
     pub marks: [Vec<u8>; 2],
     pub combined: Vec<u16>,
     pub total: u64,
+}
+
+impl Drawing {
+    /// The planes of a session over these depths, which hold this drawing of them.
+    pub fn planes<'a>(&'a self, depths: [&'a [u8]; 2]) -> Planes<'a> {
+        let Drawing { samples, fronts, limits, marks, combined, .. } = self;
+        Planes { depths, samples: both(samples), fronts: both(fronts), limits: both(limits), marks: both(marks), combined }
+    }
+}
+
+pub fn both<T>(pair: &[Vec<T>; 2]) -> [&[T]; 2] {
+    let [left, right] = pair;
+    [left, right]
+}
+
+/// Every entry of the planes, spare bits too, to compare them by.
+pub fn entries<'a>(planes: &Planes<'a>) -> impl PartialEq + Debug + 'a {
+    let Planes { depths, samples, fronts, limits, marks, combined } = *planes;
+    (depths, samples, fronts, limits, marks, combined)
 }
 
 pub fn table(settings: &Settings, view: usize) -> &[u16; 256] {
@@ -405,6 +461,30 @@ pub fn candidate_number(block: Block, candidate: Candidate) -> u32 {
 pub fn block_is_taken(settings: &Settings, block: Block) -> bool {
     let [column, row, width, height] = [block.column, block.row, block.width, block.height].map(u64::from);
     width > 0 && height > 0 && column + width <= u64::from(settings.w) && row + height <= u64::from(settings.h)
+}
+
+/// Whether a position of the picture lies in a block.
+pub fn lies_in(block: Block, column: u32, row: u32) -> bool {
+    let along = |first: u32, length: u32, at: u32| first <= at && u64::from(at) < u64::from(first) + u64::from(length);
+    along(block.column, block.width, column) && along(block.row, block.height, row)
+}
+
+/// The positions of a block of the picture, by rows.
+pub fn positions(block: Block) -> impl Iterator<Item = (u32, u32)> {
+    let Block { column, row, width, height } = block;
+    (row..row + height).flat_map(move |y| (column..column + width).map(move |x| (x, y)))
+}
+
+/// Edits are separate where they share no position of the same view (card 10).
+pub fn are_separate(views: [View; 2], blocks: [Block; 2]) -> bool {
+    views[0] != views[1] || !positions(blocks[0]).any(|(column, row)| lies_in(blocks[1], column, row))
+}
+
+/// The usual test of two blocks, none of them empty: one ends before the other begins, in columns or in rows.
+pub fn are_apart(blocks: [Block; 2]) -> bool {
+    let [a, b] = blocks;
+    let before = |a: Block, b: Block| a.column + a.width <= b.column || a.row + a.height <= b.row;
+    before(a, b) || before(b, a)
 }
 
 /// GET and SET refuse 1, 2, 3, 4, 20, 6, 5, then what the candidate's kind has, and then 8, which is left out here. What SET has

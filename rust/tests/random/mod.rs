@@ -2,7 +2,7 @@
 #![allow(dead_code)] // each test program uses its own part
 
 use crate::paper;
-use luphwezane::{Block, Candidate, Pictures, Planes, PlanesMut, Point, Settings};
+use luphwezane::{Block, Candidate, Pictures, Planes, PlanesMut, Point, Settings, View};
 use std::io::Write;
 
 /// A small generator (SplitMix64).
@@ -402,6 +402,34 @@ pub fn refused_candidate(random: &mut Random, w: usize, depths: &[u8], block: Bl
     }
 }
 
+/// An edit of these depths that GET and SET accept.
+pub fn edit(random: &mut Random, settings: &Settings, depths: [&[u8]; 2]) -> (View, Block, Tried) {
+    let view = random.pick(&View::BOTH);
+    let plane = depths[view as usize];
+    let block = edited_block(random, settings, view as usize, plane);
+    (view, block, candidate(random, settings.w as usize, plane, block))
+}
+
+/// One that they refuse: 5, 6, 7, 14 or 15.
+pub fn refused_edit(random: &mut Random, settings: &Settings, depths: [&[u8]; 2]) -> (u32, Block, Tried) {
+    let (view, mut block, mut tried) = edit(random, settings, depths);
+    if random.once_in(2) {
+        return (view as u32, block, refused_candidate(random, settings.w as usize, depths[view as usize], block));
+    }
+    let mut view = view as u32;
+    match random.between(0, 4) {
+        0 => view = random.pick(&[2, 3, 255, 256, u32::MAX]),
+        1 => block.width = 0,
+        2 => block.height = 0,
+        3 => block.column = random.pick(&[settings.w, u32::MAX, u32::MAX - block.width + 1]),
+        _ => block.row = random.pick(&[settings.h, u32::MAX, u32::MAX - block.height + 1]),
+    }
+    if random.once_in(3) {
+        tried.kind = kind(random);
+    }
+    (view, block, tried)
+}
+
 fn unknown_kind(random: &mut Random) -> u32 {
     let high = random.pick(&[4, 256, 1 << 16, 1 << 24, 1 << 31]);
     random.pick(&[4, 5, 255, u32::MAX, u32::MAX - 3, high, high + 1, high + 2, high + 3])
@@ -530,6 +558,19 @@ impl Scene {
         Scene { settings, textures, reference, depths: [depths(), depths()] }
     }
 
+    /// Any scene, or a small one whose pictures are black and white, where much can change.
+    pub fn stark(random: &mut Random, turn: u64) -> Scene {
+        if random.once_in(3) {
+            return Scene::new(random, turn);
+        }
+        let (w, h) = (random.between(1, 12), random.between(1, 3));
+        let mut scene = Scene::sized(random, w, h, turn);
+        for plane in scene.textures.iter_mut().chain([&mut scene.reference]) {
+            plane.iter_mut().for_each(|sample| *sample = random.pick(&[0, paper::WHITE]));
+        }
+        scene
+    }
+
     pub fn pictures(&self) -> Pictures<'_> {
         Pictures { textures: [&self.textures[0], &self.textures[1]], reference: &self.reference }
     }
@@ -643,6 +684,20 @@ impl GuardedPlanes {
         let (samples, combined) = ([samples(), samples()], samples());
         let limits = [(); 2].map(|()| Guarded::new(&garbage_limits(random, w * h), -23206));
         GuardedPlanes { depths: depths.map(|plane| Guarded::new(plane, 0xa5)), samples, fronts, limits, marks, combined }
+    }
+
+    /// A copy of planes as a session left them.
+    pub fn copied(planes: &Planes) -> GuardedPlanes {
+        let bytes = |pair: [&[u8]; 2]| pair.map(|plane| Guarded::new(plane, 0xa5));
+        let samples = |plane: &[u16]| Guarded::new(plane, 0xa5a5);
+        GuardedPlanes {
+            depths: bytes(planes.depths),
+            samples: planes.samples.map(samples),
+            fronts: bytes(planes.fronts),
+            limits: planes.limits.map(|plane| Guarded::new(plane, -23206)),
+            marks: bytes(planes.marks),
+            combined: samples(planes.combined),
+        }
     }
 
     pub fn shared(&self) -> Planes<'_> {
