@@ -1,7 +1,7 @@
 /*
  * The small session of document 01 (cases k, l and m), reports, refused calls, drawn rows (case g and card 7's), samples of ten
- * bits and above, candidates of every kind, SETs taken back, a seat that moves, and how far one depth can move the total, from C.
- * Its output is compared with session.out. It compiles as C99 and as C++.
+ * bits and above, candidates of every kind, SETs taken back, a seat that moves, how far one depth can move the total, and two SETs
+ * in both orders, from C. Its output is compared with session.out. It compiles as C99 and as C++.
  */
 #include <stddef.h>
 #include <stdio.h>
@@ -600,6 +600,64 @@ static void bounds(luph_settings *s, const luph_planes *q) {
     print_within(s, &p, q);
 }
 
+/* A copy of every plane of the row. */
+typedef struct row_copy {
+    uint16_t sample[2][W], combined[W];
+    int16_t limit[2][W];
+    uint8_t depth[2][W], front[2][W], marks[2][1];
+} row_copy;
+
+static void copy_row(row_copy *x) {
+    memset(x, 0, sizeof *x); /* the bytes between its planes too */
+    memcpy(x->sample, sample, sizeof sample);
+    memcpy(x->combined, combined, sizeof combined);
+    memcpy(x->limit, limit, sizeof limit);
+    memcpy(x->depth, depth, sizeof depth);
+    memcpy(x->front, front, sizeof front);
+    memcpy(x->marks, marks, sizeof marks);
+}
+
+static void print_equal(const row_copy *x, const row_copy *y) {
+    printf("all planes are %s\n", memcmp(x, y, sizeof *x) == 0 ? "equal" : "not equal");
+}
+
+/* From depths of 0, depth 4 in one column of a view and then in another: the answers and their sum, and a copy of all planes. */
+static void print_order(luph_settings *s, const luph_pictures *p, const luph_planes *q, uint32_t view, uint32_t column, uint32_t next,
+    row_copy *end) {
+    const luph_block b[2] = {{column, 0, 1, 1}, {next, 0, 1, 1}};
+    const luph_journal j = kept();
+    int64_t change[2] = {999, 999};
+    int number[2];
+    memset(depth, 0, sizeof depth);
+    printf("open: %d\n", luph_open(s, p, q, j));
+    for (int i = 0; i < 2; i++) number[i] = luph_set(s, p, q, j, view, b[i], luph_flat(4), &change[i]);
+    printf("set view %lu column %lu: %d, then column %lu: %d, change %ld + %ld = %ld, total %lu\n", (unsigned long)view,
+        (unsigned long)column, number[0], (unsigned long)next, number[1], (long)change[0], (long)change[1],
+        (long)(change[0] + change[1]), (unsigned long)s->total);
+    copy_row(end);
+}
+
+/* Two neighbouring columns of each view, set in both orders; then the depths that they have. */
+static void orders(luph_settings *s, const luph_pictures *p, const luph_planes *q) {
+    static const uint8_t fours[2] = {4, 4};
+    for (uint32_t view = 0; view < 2; view++) {
+        const luph_block b = {view == 0 ? 2u : 0u, 0, 2, 1};
+        const uint32_t column = view == 0 ? 2 : 1, next = view == 0 ? 3 : 0;
+        row_copy forth, back;
+        int64_t change = 999;
+        int number;
+        s->share = view == 0 ? 0 : 64;
+        print_order(s, p, q, view, column, next, &forth);
+        print_order(s, p, q, view, next, column, &back);
+        print_equal(&forth, &back);
+        number = luph_set(s, p, q, kept(), view, b, luph_full(in(fours, 2)), &change);
+        printf("set the depths of both again: %d, change %ld, total %lu\n", number, (long)change, (unsigned long)s->total);
+        copy_row(&back);
+        print_equal(&forth, &back);
+    }
+    print_check(s, p, q);
+}
+
 int main(void) {
     luph_settings s;
     luph_pictures p;
@@ -623,5 +681,6 @@ int main(void) {
     journals(&s, &p, &q);
     seats(&s, &p, &q);
     bounds(&s, &q);
+    orders(&s, &p, &q);
     return 0;
 }

@@ -538,6 +538,18 @@ static inline int luph_get(const luph_settings *s, const luph_pictures *p, const
  * record reaches past the end of the journal, its block is empty or reaches past an edge of the picture, its view is
  * above 1 or one of its depths above 255. 11: the record has no room. Time is taken for every word of the chain:
  * luph_keep a journal whose SETs need not be taken back. A SET of one depth has the bound that luph_get names.
+ *
+ * SETs whose blocks share no position of the same view may be made in any order, one after the other. In a session that is
+ * kept as above, depths, held planes and total are then the same in the end, and the answers add up to the same sum; a
+ * single answer may depend on the order. Two blocks of one view share no position where one ends before the other begins,
+ * in columns or in rows:
+ *
+ *     a.column + a.width <= b.column || b.column + b.width <= a.column ||
+ *     a.row + a.height <= b.row || b.row + b.height <= a.row
+ *
+ * The journals differ: their records stand in the order of the calls. Calls that write one session must not run at the same
+ * time. In such a session a SET of the depths that the block has answers a change of 0 and writes a record; depths, held
+ * planes and total stay as they are.
  */
 static inline int luph_set(luph_settings *s, const luph_pictures *p, const luph_planes *q, luph_journal journal, uint32_t view,
     luph_block b, luph_candidate candidate, int64_t *change) {

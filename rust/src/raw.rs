@@ -141,6 +141,11 @@ pub fn get(
 /// SET: writes the candidate into the block, brings the held planes up to date, saves the depths that were there in the
 /// journal, in 6 + width × height words, answers the change, and writes the new total into the settings.
 ///
+/// Where the calls are passed what [`lent`](crate::lent) asks for, SETs whose blocks share no position of the same view may be made
+/// in any order, one after the other: depths, held planes and total are the same in the end, and the answers add up to the same sum,
+/// though a single answer may depend on the order. The journals differ: their records stand in the order of the calls. A SET of the
+/// depths that the block has answers 0 there, writes its record, and leaves depths, held planes and total as they are.
+///
 /// Reads samples and refuses as [`get`] does, then 13 and 11. Every word of the journal's chain is examined: [`keep`] a journal
 /// whose SETs need not be taken back.
 #[rustfmt::skip]

@@ -201,6 +201,37 @@ impl Session {
     /// is repeated: of a long list of SETs few are made twice. A call that is refused for another reason leaves the journal's
     /// length too.
     ///
+    /// SETs whose blocks share no position of the same view may be made in any order: depths, held planes and total are the same
+    /// in the end, and the answers add up to the same sum. A single answer may depend on the order, and SETs are taken back in the
+    /// order in which they were made, the last one first. Two blocks of one view share no position where one ends before the other
+    /// begins, in columns or in rows. A SET of the depths that the block has answers 0 and changes nothing, except that it can be
+    /// taken back.
+    ///
+    /// ```
+    /// use luphwezane::{Block, Candidate, Pictures, Session, Settings, View};
+    ///
+    /// let table = std::array::from_fn(|d| d as u16);
+    /// let settings =
+    ///     Settings { w: 4, h: 1, left: table, right: table, share: 0, tolerance: 255, widest_gap: 8, torn_distance: 1, total: 0 };
+    /// let row = [10, 20, 30, 40];
+    /// let pictures = Pictures { textures: [&row, &row], reference: &row };
+    /// let mut session = Session::open(&settings, &pictures, [&[0; 4], &[0; 4]])?;
+    /// let mut other = session.clone();
+    ///
+    /// // Two neighbouring columns. Each answers something else where it is set first.
+    /// let (one, next) = (Block { column: 2, row: 0, width: 1, height: 1 }, Block { column: 3, row: 0, width: 1, height: 1 });
+    /// assert_eq!(session.set(View::Left, one, Candidate::Flat(4))?, 136);
+    /// assert_eq!(session.set(View::Left, next, Candidate::Flat(4))?, 64);
+    /// assert_eq!(other.set(View::Left, next, Candidate::Flat(4))?, 100);
+    /// assert_eq!(other.set(View::Left, one, Candidate::Flat(4))?, 100);
+    /// assert_eq!((session.total(), other.total()), (200, 200));
+    /// assert_eq!(session.planes().combined, other.planes().combined);
+    ///
+    /// // The depths that the block has.
+    /// assert_eq!(session.set(View::Left, one, Candidate::Flat(4))?, 0);
+    /// # Ok::<(), luphwezane::Refusal>(())
+    /// ```
+    ///
     /// # Errors
     /// Refuses as [`get`](Session::get) does, then [`JournalFull`](Refusal::JournalFull) where the record's index would pass 32
     /// bits: that takes a journal of 2³² words, which are 16 GB. The session then stays as it is.

@@ -60,6 +60,16 @@ fn nearest(numbers: &[String], view: &str) -> [i64; 8] {
     found.try_into().unwrap_or_else(|_| panic!("{line}"))
 }
 
+/// The numbers of the line that says what two units of a view answer in both orders: row, the columns of the first and of the other
+/// unit, what these answer, both columns the other way round and their answers, and the sum.
+fn order(numbers: &[String], view: &str) -> [i64; 10] {
+    let line = numbers.iter().find(|line| line.starts_with(&format!("order   {view}, "))).expect("it sets two units in both orders");
+    assert!(line.ends_with(", ends alike"), "{line}");
+    let text = line.replace(", ", " ").replace(',', "");
+    let found: Vec<i64> = text.split([' ', ':', ';']).filter_map(|word| word.parse().ok()).collect();
+    found.try_into().unwrap_or_else(|_| panic!("{line}"))
+}
+
 /// The arguments for a run from files of a folder, with pictures written to another.
 fn run_again<'a>(files: &'a [PathBuf; 5], out: &'a Path) -> Vec<&'a str> {
     ["--out", text(out)].into_iter().chain(files.iter().map(|file| text(file))).collect()
@@ -128,6 +138,18 @@ fn one_depth_stays_within_its_bound() {
         assert!((0..256).contains(&depth) && (0..320).contains(&column));
         assert_eq!(bound, 1_046_529 * ((length + 3) / 4));
         assert!(bound > 0 && (bound / 10..=bound).contains(&change.abs()), "{view}: {change} of {bound}");
+    }
+}
+
+/// Two neighbouring units of the middle row of units answer something else in each order, with one sum, in both views.
+#[test]
+fn two_units_in_both_orders() {
+    let numbers = numbers(&demo(&["--out", text(&folder("order"))]));
+    for view in ["left", "right"] {
+        let [row, a, b, one, then_other, again_b, again_a, other, then_one, sum] = order(&numbers, view);
+        assert_eq!((row, b, again_a, again_b), (96, a + 8, a, b));
+        assert!(one != then_one && other != then_other, "{view}: the order makes no difference");
+        assert_eq!((one + then_other, other + then_one), (sum, sum), "{view}");
     }
 }
 

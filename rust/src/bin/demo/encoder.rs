@@ -94,7 +94,7 @@ impl Pass {
 }
 
 /// The parts of a block that have this side, by rows; those at its right and lower edge may be smaller.
-fn parts(block: Block, side: u32) -> Vec<Block> {
+pub fn parts(block: Block, side: u32) -> Vec<Block> {
     let (right, lower) = (block.column + block.width, block.row + block.height);
     let rows = (block.row..lower).step_by(side as usize);
     rows.flat_map(|row| {

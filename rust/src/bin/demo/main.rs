@@ -1,14 +1,16 @@
 //! A first session to look at. An encoder-like search improves two coarse depth maps: for each unit it tries a few hundred
 //! candidates with GET, sets its quarters one by one, and takes them back where one candidate for the whole unit is better. In
-//! one row every depth is tried in every column, beside the bound of its change. Then the seat moves from the left camera to the
-//! right one, over the depths that the search found. It prints two tables and writes pictures.
+//! one row every depth is tried in every column, beside the bound of its change. Two neighbouring units are set in both orders, and
+//! taken back. Then the seat moves from the left camera to the right one, over the depths that the search found. It prints two
+//! tables and writes pictures.
 
 mod encoder;
+mod order;
 mod pgm;
 mod reach;
 mod scene;
 
-use luphwezane::{Pictures, Report, Session, Settings, View, GREATEST_SAMPLE};
+use luphwezane::{Block, Pictures, Report, Session, Settings, View, GREATEST_SAMPLE};
 use pgm::Picture;
 use std::io::{IsTerminal, Write};
 use std::path::{Path, PathBuf};
@@ -175,7 +177,8 @@ fn search(session: &mut Session, out: &Path, largest: u16) -> Result<(), String>
     println!();
     print_check(session)?;
     println!("holes   left {}, right {}", thousands(session.holes(View::Left) as i64), thousands(session.holes(View::Right) as i64));
-    View::BOTH.into_iter().try_for_each(|view| print_bound(session, view))
+    View::BOTH.into_iter().try_for_each(|view| print_bound(session, view))?;
+    View::BOTH.into_iter().try_for_each(|view| print_order(session, view))
 }
 
 /// Every depth in every column of the middle row, beside the bound of its change. An error where one goes past it.
@@ -190,6 +193,21 @@ fn print_bound(session: &Session, view: View) -> Result<(), String> {
         Ok(())
     } else {
         Err("a depth changes the total by more than its bound".into())
+    }
+}
+
+/// Two neighbouring units in both orders. An error where these do not end alike.
+fn print_order(session: &mut Session, view: View) -> Result<(), String> {
+    let Some(pair) = order::Pair::found(session, view).map_err(|refusal| refusal.to_string())? else { return Ok(()) };
+    let (name, sum) = (if view == View::Left { "left" } else { "right" }, thousands(pair.answers[0].iter().sum()));
+    let [Block { row, column: a, .. }, Block { column: b, .. }] = pair.units;
+    let [forth, back] = pair.answers.map(|[first, then]| format!("{} and {}", thousands(first), thousands(then)));
+    let end = if pair.alike { "ends alike" } else { "ends otherwise" };
+    println!("order   {name}, row {row}: units set at column {a}, then {b}: {forth}; at {b}, then {a}: {back}; sum {sum}, {end}");
+    if pair.alike {
+        Ok(())
+    } else {
+        Err("two units end otherwise in another order".into())
     }
 }
 
