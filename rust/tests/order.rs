@@ -454,7 +454,7 @@ impl<'a> Run<'a> {
     }
 
     /// A SET of the depths that the block has, tried before and then taken back: it answers 0, and only its record is new.
-    fn idle(&mut self, edit: &Edit) {
+    fn no_op(&mut self, edit: &Edit) {
         let (settings, planes, journal) = (self.settings, self.planes.clone(), self.journal.clone());
         let saved = paper::saved(&settings, journal.entries(), planes.shared().depths, edit.view as usize, edit.block);
         assert_eq!([self.get(edit), self.set(edit)], [0, 0], "{edit:?}");
@@ -598,33 +598,33 @@ fn standing(random: &mut Random, block: Block, depths: &[u8]) -> Vec<Tried> {
     all
 }
 
-const IDLE_SESSIONS: u64 = 2000;
+const NO_OP_SESSIONS: u64 = 2000;
 
 /// SETs of the depths that a block has, by every kind of candidate that has them.
 #[test]
-fn random_idle_sets() {
+fn random_no_op_sets() {
     let known = RefCell::new(Known::default());
-    random::sessions("idle", IDLE_SESSIONS, |random, number| {
+    random::sessions("no-op", NO_OP_SESSIONS, |random, number| {
         let (scene, known) = (Scene::stark(random, number), &mut *known.borrow_mut());
         let (start, _) = begun(random, &scene);
         let mut run = Run::from(random, &start, 4 * (6 + scene.reference.len()));
         for _ in 0..3 {
             let Edit { view, block, tried } = Edit::any(random, &run.session);
-            let mut idle = Vec::new();
+            let mut no_ops = Vec::new();
             if random.once_in(2) {
                 run.set(&Edit { view, block, tried: tried.clone() });
-                idle.push(tried);
+                no_ops.push(tried);
             }
             let depths = paper::depths_of(&run.settings, run.session.planes().depths[view as usize], block);
-            idle.extend(standing(random, block, &depths));
+            no_ops.extend(standing(random, block, &depths));
             let several = depths.iter().any(|depth| *depth != depths[0]);
-            for tried in idle {
+            for tried in no_ops {
                 known.note(&format!("{} of {}", KINDS[tried.kind as usize], if several { "several depths" } else { "one depth" }), true);
-                run.idle(&Edit { view, block, tried });
+                run.no_op(&Edit { view, block, tried });
             }
         }
     });
-    if random::from_environment("LUPH_SESSIONS", IDLE_SESSIONS) >= IDLE_SESSIONS {
+    if random::from_environment("LUPH_SESSIONS", NO_OP_SESSIONS) >= NO_OP_SESSIONS {
         let known = known.into_inner();
         known.assert_had(&["a full block of one depth", "one value of one depth", "a line of one depth", "a mask of one depth"]);
         known.assert_had(&["a full block of several depths", "a line of several depths", "a mask of several depths"]);

@@ -7,7 +7,7 @@
 --     opened-within, opened-shared-within              and the bound of document 02, card 4, in such a run
 --     tried-within, tried-held                         and of a GET alone, also as a caller works it out from what it holds
 --     opened-order, opened-shared-order                separate SETs after the run, in any order (card 10); wrote-orders: two of them, on any sound session
---     opened-no-op, opened-shared-no-op                  SETs of the depths that their blocks have, in the run; wrote-no-op: one, on any sound session
+--     opened-no-op, opened-shared-no-op                SETs of the depths that their blocks have, in the run; wrote-no-op: one, on any sound session
 use Prim.Native.Nat.{ℕ, _≤_}
 use mathlib.Core.Path.{_≡_, sym, ap, _∙_, subst}
 use mathlib.Core.List.{List, [], _∷_}

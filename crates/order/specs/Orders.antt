@@ -16,7 +16,7 @@ abbrev pub Reordered : List Edit → List Edit → Type 0
 Reordered ks ls = List·Permᴰ ks ls
 
 -- The SETs that stand after some calls, the newest first, where ks stand before: ks and the accepted SETs of the calls, whatever the kinds of their candidates and the
--- journals that they were passed.
+-- journals that they were passed, one for all of them or each its own.
 unfoldable pub setsAfter : List Edit → List Call → List Event → List Edit
 setsAfter ks [] es = ks
 setsAfter ks (c ∷ cs) [] = ks
