@@ -61,11 +61,7 @@ module _ (s : Settings) (p : Pictures) (d e : Depths) (h g : Held) (j k : List �
   pub set-change : t .change ≡ changeOf s p d v b (filled b c x)
   set-change = post .edit .change accepted ∙ post .edit .decided early (sound-read s p d (tested .depths) (tested .share) h sound)
 
--- a change, and then another
-in-turn : (a b c : ℕ) (x y : ℤ) → x ≡ pos b -ℤ pos a → y ≡ pos c -ℤ pos b → x +ℤ y ≡ pos c -ℤ pos a
-in-turn a b c x y e f = +ℤ-comm x y ∙ rw (f, e, minus c b, minus b a, minus c a) (subℕ-chain c b a)
-
--- the same on the session of a record
+-- the same on the session of the record r: what it leaves is the session of r with the block written
 module _ (r : Plain) {p : Pictures} {st : State} (same : p ≡ r .pictures) (now : st ≡ plainState r) {d : Depths} {h : Held} {j k : List ℕ} {v : ℕ} {b : Block} {c : Candidate} {x : List ℕ} {t : Edited} (post : SetPost (st .settings) p (st .depths) d (st .held) h j k v b c x t) (accepted : numberOf (t .refusal) ≡ 0) where
   carried : SetPost (plainState r .settings) (r .pictures) (plainState r .depths) d (plainState r .held) h j k v b c x t
   carried =
@@ -80,6 +76,10 @@ module _ (r : Plain) {p : Pictures} {st : State} (same : p ≡ r .pictures) (now
   )
 
 -- ---- a run
+
+-- a change, and then another
+in-turn : (a b c : ℕ) (x y : ℤ) → x ≡ pos b -ℤ pos a → y ≡ pos c -ℤ pos b → x +ℤ y ≡ pos c -ℤ pos a
+in-turn a b c x y e f = +ℤ-comm x y ∙ rw (f, e, minus c b, minus b a, minus c a) (subℕ-chain c b a)
 
 -- What is shown of a run from the record r with the SETs ks standing: after it ls stand, and its answers add to z.
 abbrev Made : Plain → List Edit → List Edit → ℤ → State → Type 0
@@ -104,7 +104,7 @@ run-made r ks (wrote {v = v} {b = b} {c = c} {x = x} {cs = cs} {es = es} t d h k
 run-made r ks (moved t h k post run) p e (u, stay) =
     run-made r ks run (rw (ne-eqb (numberOf (t .refusal)) 0 u) p) (rw (post .refused-settings u, post .refused-held u) e) stay
 
--- Two accepted SETs, nothing between: a is v, b, c and x, the other u, g, f and y.
+-- Two accepted SETs, nothing between: the first is v, b, c and x with the journal j, the second u, g, f and y with the journal k.
 module _ (v : ℕ) (b : Block) (c : Candidate) (x : List ℕ) (j : List ℕ) (e : Event) (u : ℕ) (g : Block) (f : Candidate) (y : List ℕ) (k : List ℕ) (i : Event) (first : e .reply .number ≡ 0) (second : i .reply .number ≡ 0) where
   two-sets : setsOf (set v b c x j ∷ set u g f y k ∷ []) (e ∷ i ∷ []) ≡ edit u g (filled g f y) ∷ edit v b (filled b c x) ∷ []
   unfolding setsAfter

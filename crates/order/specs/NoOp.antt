@@ -1,4 +1,4 @@
--- Document 02, card 10: a SET of the depths that a block has answers 0 and changes nothing but the journal; so of every call of a run. GET answers what SET does.
+-- Document 02, card 10: a SET of the depths that a block has answers 0 and changes nothing but the journal, and a GET of them answers 0 too: said of every call of a run.
 use Prim.Native.Nat.{ℕ}
 use mathlib.Core.Path.{_≡_}
 use mathlib.Core.List.{List}

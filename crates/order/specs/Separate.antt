@@ -10,7 +10,7 @@ use Rattle.model.specs.Views.{isRight}
 use Rattle.model.specs.Blocks.{inRows, inColumns}
 use Rattle.run.specs.Shared.{Standing}
 
--- An edit: its view, its block, and the depths that it writes there.
+-- An edit: its view, its block, and the depths that it writes there. The plain record of a run with one journal keeps this of each SET that stands.
 abbrev pub Edit : Type 0
 Edit = Standing
 
@@ -45,7 +45,7 @@ apart a b =
     (leb (a .column + a .width) (b .column) || leb (b .column + b .width) (a .column))
     || (leb (a .row + a .height) (b .row) || leb (b .row + b .height) (a .row))
 
--- left of one and right of the other
+-- one is the right view and the other is not
 abbrev pub otherView : ℕ → ℕ → Bool
 otherView v u = cond (isRight v) (not (isRight u)) (isRight u)
 
