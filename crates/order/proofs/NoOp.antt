@@ -1,7 +1,8 @@
 -- A SET of the depths that a block has.
---     no-change, no-edit          it changes nothing of the total, and nothing of the record
+--     no-change, no-edit            it changes nothing of the total, and nothing of the record
 --     get-no-op, set-no-op          so of the promises of GET and SET, on a sound session
 --     session-no-op, shared-no-op   and of every call of a run
+--     kept-no-op                    and again after the caller has emptied the journal
 use Prim.Native.Nat.{ℕ}
 use mathlib.Core.Path.{_≡_, sym, ap, _∙_}
 use mathlib.Core.List.{List, [], _∷_}
@@ -17,6 +18,7 @@ use Rattle.model.specs.declared.Edited.{Edited}
 use Rattle.model.specs.Planes.{Pictures, Depths, Held, State, readHeld}
 use Rattle.model.specs.Candidates.{filled}
 use Rattle.model.specs.Blocks.{oldDepths, changeOf}
+use Rattle.model.specs.Journals.{emptied}
 use Rattle.model.specs.Refusals.{numberOf}
 use Rattle.model.specs.Promises.{OpenPost, Sound, GetPost, SetPost}
 use Rattle.model.proofs.Fresh.{DepthsSized}
@@ -24,12 +26,12 @@ use Rattle.model.proofs.Written.{written-old}
 use Rattle.model.proofs.Refusals.{common-facts, early-common, call-zero}
 use Rattle.run.specs.Run.{Call, Event, Run, leaves, Plain, plain, plainNumber, plainAccepted, plainNext, plainAnswer, plainChange, plainReply, plainState, plainEvent, plainEvents}
 use Rattle.run.specs.Run.Call.{get, set, move}
-use Rattle.run.specs.Shared.{SharedCall, SharedRun, SharedPlain, inTurn, opened, standsAs, plainTotal, sharedNumber, accepted, sharedNext, sharedChange, sharedReply, sharedEvent, sharedEvents}
+use Rattle.run.specs.Shared.{SharedCall, SharedRun, SharedPlain, inTurn, opened, standsAs, plainTotal, sharedNumber, accepted, sharedNext, sharedChange, sharedReply, sharedEvent, sharedEvents, sharedEnd}
 use Rattle.run.specs.Shared.SharedCall.{get as shared-get, set as shared-set, takeBack, move as shared-move}
 use Rattle.run.proofs.Steps.{Ready}
 use Rattle.run.proofs.Calls.{fill-ready, fill-leaves, edited}
 use Rattle.run.proofs.Run.{ready-next, session-run}
-use Rattle.run.proofs.Shared.{ready-turn, ready-shared, shared-run}
+use Rattle.run.proofs.Shared.{ready-turn, ready-shared, shared-run, shared-ready, kept-run}
 use Rattle.order.specs.NoOp.{BlockHas, CallNoOp, AllNoOps, SharedNoOp, AllSharedNoOps}
 use Rattle.order.proofs.Orders.{sound-state, set-state, set-change, tested}
 
@@ -107,3 +109,12 @@ module _ (s : Settings) (p : Pictures) (d : Depths) (h₀ h : Held) (j₀ j : Li
   pub shared-no-op : {cs : List SharedCall} {es : List Event} {last : State} {end : List ℕ} → SharedRun p (leaves (o .settings) d h) j cs es last end → AllSharedNoOps (leaves (o .settings) d h) cs es
   unfolding inTurn
   shared-no-op {cs = cs} run = rw (leaves-first, shared-run s p d h₀ h j₀ j o post yes run .events) (record-no-op (opened (plain s p d) j₀) ready-first cs)
+
+  pub kept-no-op :
+      {cs ds : List SharedCall} {es fs : List Event} {last st : State} {end k : List ℕ} → SharedRun p (leaves (o .settings) d h) j cs es last end →
+      SharedRun (sharedEnd (opened (plain s p d) j₀) cs .start .pictures) last (emptied end) ds fs st k → AllSharedNoOps last ds fs
+  unfolding inTurn
+  kept-no-op {cs = cs} {ds = ds} {end = end} run further =
+      let ends : SharedPlain = sharedEnd (opened (plain s p d) j₀) cs in
+      rw (shared-run s p d h₀ h j₀ j o post yes run .session, kept-run s p d h₀ h j₀ j o post yes run further .events)
+      (record-no-op (opened (standsAs ends) end) (shared-ready s p d h₀ h j₀ j o post yes run) ds)
