@@ -240,7 +240,7 @@ module _ {p : Pictures} {st : State} (sound : Sound (st .settings) p (st .depths
       let same = set-no-op (st .settings) p (st .depths) (st .held) v b c x has d h j k (o .reply) (o .promised) sound (sym (o .told .number-is) ∙ z) in
       (o .told .accepted z .0 ∙ same .0, ap (λ (n : Settings). leaves n d h) (sym (edited-settings o (o .promised .edit))) ∙ same .1)
 
-  -- Two separate ones, in one order and in the other.
+  -- Two separate ones, in one order and in the other: n are the numbers answered, a the changes through their pointers, and t₂, t₄, t₆ and t₈ the totals.
   pub wrote-orders :
       {d₁ d₂ d₃ d₄ : Depths} {h₁ h₂ h₃ h₄ : Held} {j₁ j₂ j₃ j₄ k₁ k₂ k₃ k₄ : List ℕ} {v u : ℕ} {b g : Block} {c f : Candidate} {x y : List ℕ} {n₁ n₂ n₃ n₄ t₁ t₂ t₃ t₄ t₅ t₆ t₇ t₈ : ℕ}
       {z₁ z₂ z₃ z₄ a₁ a₂ a₃ a₄ : ℤ} →

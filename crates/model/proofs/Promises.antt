@@ -3,16 +3,19 @@
 --     holes-left, holes-right, ..    of view 0 the left marks are counted, of view 1 the right ones; a refusal answers its number
 --     check-sound, check-total, ..   what each answer of CHECK says of the planes lent to it
 --     row-stays                      SET and TAKE BACK leave every entry of the rows outside the block as it was
+--     get-early, set-early           an accepted GET or SET has passed every test before 8
 --     edit-settings, edit-sound      where SET or TAKE BACK is accepted on a sound session, the total answered is the fresh one and the session stays sound
 use Prim.Native.Nat.{ℕ, _<_, _≤_}
 use mathlib.Core.Path.{_≡_, refl, ap, sym, _∙_}
 use mathlib.Core.Bool.{true, false}
 use mathlib.Core.List.{List}
 use lib.IntN.{ℤ, pos, _+ℤ_, _-ℤ_, natAbs}
-use lib.ListN.{getD}
+use lib.ListN.{length, getD}
 use Rattle.model.specs.declared.Settings.{Settings}
 use Rattle.model.specs.declared.Block.{Block}
+use Rattle.model.specs.declared.Candidate.{Candidate}
 use Rattle.model.specs.declared.Refusal.{Refusal}
+use Rattle.model.specs.declared.Trial.{Trial}
 use Rattle.model.specs.declared.Edited.{Edited}
 use Rattle.model.specs.declared.Report.{Report}
 use Rattle.model.specs.declared.Count.{Count}
@@ -23,11 +26,11 @@ use Rattle.model.specs.Marks.{markAt, spareBits, holesIn}
 use Rattle.model.specs.Planes.{Pictures, Depths, View, Held, Strip, withTotal, viewRows, heldRow}
 use Rattle.model.specs.Fresh.{stripOf, fresh, freshTotal}
 use Rattle.model.specs.Blocks.{inRows, written, changeOf}
-use Rattle.model.specs.Refusals.{numberOf, reportNumber, checkNumber, holesNumber}
-use Rattle.model.specs.Promises.{RenderPost, Sound, Updated, EditPost, CheckPost, HolesPost}
+use Rattle.model.specs.Refusals.{numberOf, reportNumber, checkNumber, earlyNumber, savingThen, holesNumber}
+use Rattle.model.specs.Promises.{RenderPost, Sound, GetPost, Updated, EditPost, SetPost, CheckPost, HolesPost}
 use Rattle.model.proofs.Lists.{getD-row}
 use Rattle.model.proofs.Fresh.{DepthsSized, fresh-total, freshTotal-total}
-use Rattle.model.proofs.Refusals.{Common, common-facts, total-change}
+use Rattle.model.proofs.Refusals.{Common, common-facts, call-zero, total-change}
 use Rattle.model.proofs.Readings.{sound-read}
 use Rattle.model.proofs.Verdicts.{SameView, Same, Differs, report-sound, report-total, report-difference}
 
@@ -91,6 +94,15 @@ row-stays s v b h₀ h same y x out l =
       right = view-stays (s .w) (h .right) (h₀ .right) y x l (ap (λ (r : Held). r .right) e);
       combined = sym (getD-row 0 (h .combined) (s .w) y x l) ∙ ap (λ (r : Held). getD (r .combined) x 0) e ∙ getD-row 0 (h₀ .combined) (s .w) y x l;
     }
+
+-- ---- an accepted GET or SET has passed every test before 8
+
+module _ (s : Settings) (p : Pictures) (d : Depths) (h : Held) (v : ℕ) (b : Block) (c : Candidate) (x : List ℕ) where
+  pub get-early : {r : Trial} → GetPost s p d h v b c x r → numberOf (r .refusal) ≡ 0 → earlyNumber s p d h v b c (length x) ≡ 0
+  get-early post z = call-zero s p d h v b c (length x) (post .found) 0 (sym (post .number) ∙ z)
+
+  pub set-early : {d′ : Depths} {h′ : Held} {j j′ : List ℕ} {r : Edited} → SetPost s p d d′ h h′ j j′ v b c x r → numberOf (r .refusal) ≡ 0 → earlyNumber s p d h v b c (length x) ≡ 0
+  set-early {j = j} post z = call-zero s p d h v b c (length x) (post .found) (savingThen s b j 0) (sym (post .number) ∙ z)
 
 -- ---- an edit of a sound session
 

@@ -466,6 +466,9 @@ module _ (s : Settings) (p : Pictures) (d : Depths) (h : Held) where
     pub early-own : earlyNumber s p d h v b c n ≡ 0 → ownThen s v b c n 0 ≡ 0
     early-own e = rest-passed (common-before s p d h) (ownThen s v b c n 0) e
 
+    pub early-facts : earlyNumber s p d h v b c n ≡ 0 → Common s p d h × OwnTests s v b c n
+    early-facts e = (common-facts s p d h (early-common e), own-facts s v b c n (early-own e))
+
     -- with no early refusal, 8 and the rest decide
     pub call-late : (x : ℤ) (rest : ℕ) → earlyNumber s p d h v b c n ≡ 0 → callThen s p d h v b c n x rest ≡ unless (inRange s x) 8 rest
     call-late x rest e = early-before .rest _ e

@@ -4,8 +4,8 @@
 --     session-no-op, shared-no-op   and of every call of a run
 --     kept-no-op                    and again after the caller has emptied the journal
 use Prim.Native.Nat.{ℕ}
-use mathlib.Core.Path.{_≡_, sym, ap, _∙_}
-use mathlib.Core.List.{List, [], _∷_}
+use mathlib.Core.Path.{_≡_, refl, sym, ap, _∙_}
+use mathlib.Core.List.{List}
 use lib.IntN.{pos, _-ℤ_, +ℤ-invr}
 use lib.ListN.{length}
 use borrow.Author.Tests.{eq-eqb}
@@ -23,15 +23,16 @@ use Rattle.model.specs.Refusals.{numberOf}
 use Rattle.model.specs.Promises.{OpenPost, Sound, GetPost, SetPost}
 use Rattle.model.proofs.Fresh.{DepthsSized}
 use Rattle.model.proofs.Written.{written-old}
-use Rattle.model.proofs.Refusals.{common-facts, early-common, call-zero}
-use Rattle.run.specs.Run.{Call, Event, Run, leaves, Plain, plain, plainNumber, plainAccepted, plainNext, plainAnswer, plainChange, plainReply, plainState, plainEvent, plainEvents}
+use Rattle.model.proofs.Refusals.{early-facts}
+use Rattle.model.proofs.Promises.{get-early}
+use Rattle.run.specs.Run.{Call, Event, Run, leaves, Plain, plain, plainNumber, plainAccepted, plainNext, plainAnswer, plainChange, plainReply, plainState, plainEvent}
 use Rattle.run.specs.Run.Call.{get, set, move}
-use Rattle.run.specs.Shared.{SharedCall, SharedRun, SharedPlain, inTurn, opened, standsAs, plainTotal, sharedNumber, accepted, sharedNext, sharedChange, sharedReply, sharedEvent, sharedEvents, sharedEnd}
+use Rattle.run.specs.Shared.{SharedCall, SharedRun, SharedPlain, inTurn, opened, standsAs, plainTotal, sharedNumber, accepted, sharedNext, sharedChange, sharedReply, sharedEvent, sharedEnd}
 use Rattle.run.specs.Shared.SharedCall.{get as shared-get, set as shared-set, takeBack, move as shared-move}
 use Rattle.run.proofs.Steps.{Ready}
-use Rattle.run.proofs.Calls.{fill-ready, fill-leaves, edited}
-use Rattle.run.proofs.Run.{ready-next, session-run}
-use Rattle.run.proofs.Shared.{ready-turn, ready-shared, shared-run, shared-ready, kept-run}
+use Rattle.run.proofs.Calls.{fill-leaves, edited}
+use Rattle.run.proofs.Run.{session-all}
+use Rattle.run.proofs.Shared.{ready-turn, shared-run, shared-all, kept-all}
 use Rattle.order.specs.NoOp.{BlockHas, CallNoOp, AllNoOps, SharedNoOp, AllSharedNoOps}
 use Rattle.order.proofs.Orders.{sound-state, set-state, set-change, tested}
 
@@ -50,8 +51,8 @@ module _ (r : Plain) (sized : DepthsSized (r .settings) (r .depths)) (v : ℕ) (
 module _ (s : Settings) (p : Pictures) (d : Depths) (h : Held) (v : ℕ) (b : Block) (c : Candidate) (x : List ℕ) (has : filled b c x ≡ oldDepths s v b d) where
   pub get-no-op : (t : Trial) → GetPost s p d h v b c x t → Sound s p d (readHeld h) → numberOf (t .refusal) ≡ 0 → t .change ≡ pos 0
   get-no-op t post sound z =
-      let e = call-zero s p d h v b c (length x) (post .found) 0 (sym (post .number) ∙ z) in
-      post .change z ∙ post .decided e sound ∙ no-change (plain s p d) (common-facts s p d h (early-common s p d h v b c (length x) e) .depths) v b has
+      let e = get-early s p d h v b c x post z in
+      post .change z ∙ post .decided e sound ∙ no-change (plain s p d) (early-facts s p d h v b c (length x) e .0 .depths) v b has
 
   pub set-no-op : (e : Depths) (g : Held) (j k : List ℕ) (t : Edited) → SetPost s p d e h g j k v b c x t → Sound s p d h → numberOf (t .refusal) ≡ 0 → (t .change ≡ pos 0) × (leaves (t .settings) e g ≡ leaves s d h)
   set-no-op e g j k t post sound z =
@@ -75,11 +76,6 @@ call-no-op r ok (get v b c x) = answer-no-op r ok v b (filled b c x) _ _ (λ z h
 call-no-op r ok (set v b c x j) = answer-no-op r ok v b (filled b c x) _ _ (λ z has. rw (eq-eqb _ 0 z) (no-edit r (ok .depths) v b has))
 call-no-op r ok (move to reference j) = tt
 
-plain-no-op : (r : Plain) → Ready r → (ks : List Call) → AllNoOps (plainState r) ks (plainEvents r ks)
-unfolding AllNoOps plainEvents
-plain-no-op r ok [] = tt
-plain-no-op r ok (k ∷ ks) = (call-no-op r ok k, plain-no-op (plainNext r k) (ready-next r ok k) ks)
-
 shared-call-no-op : (r : SharedPlain) → Ready (r .start) → (k : SharedCall) → SharedNoOp (plainState (standsAs r)) k (sharedEvent r k)
 unfolding sharedReply sharedNext sharedNumber accepted sharedChange inTurn plainState plainAnswer
 shared-call-no-op r ok (shared-get v b c x) = answer-no-op (standsAs r) (ready-turn (r .start) ok (r .standing)) v b (filled b c x) _ _ (λ z has. rw (eq-eqb _ 0 z))
@@ -89,32 +85,27 @@ shared-call-no-op r ok (shared-set v b c x) =
 shared-call-no-op r ok takeBack = tt
 shared-call-no-op r ok (shared-move to reference) = tt
 
-record-no-op : (r : SharedPlain) → Ready (r .start) → (ks : List SharedCall) → AllSharedNoOps (plainState (standsAs r)) ks (sharedEvents r ks)
-unfolding AllSharedNoOps sharedEvents
-record-no-op r ok [] = tt
-record-no-op r ok (k ∷ ks) = (shared-call-no-op r ok k, record-no-op (sharedNext r k) (ready-shared r ok k) ks)
-
 -- ---- after an accepted OPEN
 
 module _ (s : Settings) (p : Pictures) (d : Depths) (h₀ h : Held) (j₀ j : List ℕ) (o : Opened) (post : OpenPost s p d h₀ h j₀ j o) (yes : numberOf (o .refusal) ≡ 0) where
-  ready-first : Ready (plain s p d)
-  ready-first = fill-ready s s p d h₀ h j₀ j o post yes
-
   leaves-first : leaves (o .settings) d h ≡ plainState (plain s p d)
   leaves-first = fill-leaves s s p d h₀ h j₀ j o post yes
 
   pub session-no-op : {cs : List Call} {es : List Event} {last : State} → Run p (leaves (o .settings) d h) cs es last → AllNoOps (leaves (o .settings) d h) cs es
-  session-no-op {cs = cs} run = rw (leaves-first, session-run s p d h₀ h j₀ j o post yes run .events) (plain-no-op (plain s p d) ready-first cs)
+  unfolding AllNoOps
+  session-no-op run = rw leaves-first (session-all s p d h₀ h j₀ j o post yes run plainState (λ (st : State) k e. e .after) CallNoOp (λ r k. refl) call-no-op)
+
+  abbrev session : SharedPlain → State
+  session r = plainState (standsAs r)
 
   pub shared-no-op : {cs : List SharedCall} {es : List Event} {last : State} {end : List ℕ} → SharedRun p (leaves (o .settings) d h) j cs es last end → AllSharedNoOps (leaves (o .settings) d h) cs es
-  unfolding inTurn
-  shared-no-op {cs = cs} run = rw (leaves-first, shared-run s p d h₀ h j₀ j o post yes run .events) (record-no-op (opened (plain s p d) j₀) ready-first cs)
+  unfolding AllSharedNoOps inTurn
+  shared-no-op run = rw leaves-first (shared-all s p d h₀ h j₀ j o post yes run session (λ (st : State) k e. e .after) SharedNoOp (λ r k. refl) shared-call-no-op)
 
   pub kept-no-op :
       {cs ds : List SharedCall} {es fs : List Event} {last st : State} {end k : List ℕ} → SharedRun p (leaves (o .settings) d h) j cs es last end →
       SharedRun (sharedEnd (opened (plain s p d) j₀) cs .start .pictures) last (emptied end) ds fs st k → AllSharedNoOps last ds fs
-  unfolding inTurn
-  kept-no-op {cs = cs} {ds = ds} {end = end} run further =
-      let ends : SharedPlain = sharedEnd (opened (plain s p d) j₀) cs in
-      rw (shared-run s p d h₀ h j₀ j o post yes run .session, kept-run s p d h₀ h j₀ j o post yes run further .events)
-      (record-no-op (opened (standsAs ends) end) (shared-ready s p d h₀ h j₀ j o post yes run) ds)
+  unfolding AllSharedNoOps inTurn
+  kept-no-op run further =
+      rw (shared-run s p d h₀ h j₀ j o post yes run .session)
+      (kept-all s p d h₀ h j₀ j o post yes run session (λ (st : State) k e. e .after) SharedNoOp (λ r k. refl) shared-call-no-op further)

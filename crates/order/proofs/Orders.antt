@@ -18,13 +18,13 @@ use Rattle.model.specs.declared.Edited.{Edited}
 use Rattle.model.specs.Planes.{Pictures, Depths, Held, State}
 use Rattle.model.specs.Candidates.{filled}
 use Rattle.model.specs.Blocks.{written, changeOf}
-use Rattle.model.specs.Refusals.{numberOf, earlyNumber, savingThen}
+use Rattle.model.specs.Refusals.{numberOf, earlyNumber}
 use Rattle.model.specs.Promises.{Sound, SetPost}
 use Rattle.model.proofs.Choice.{bool-cases}
 use Rattle.model.proofs.Signs.{minus, subℕ-chain}
-use Rattle.model.proofs.Refusals.{Common, common-facts, early-common, call-zero}
+use Rattle.model.proofs.Refusals.{Common, early-facts}
 use Rattle.model.proofs.Readings.{sound-read}
-use Rattle.model.proofs.Promises.{edit-settings}
+use Rattle.model.proofs.Promises.{set-early, edit-settings}
 use Rattle.run.specs.Run.{Call, Event, Run, leaves, Plain, plain, plainState, plainEnd, RunPost}
 use Rattle.run.specs.Run.Call.{set}
 use Rattle.run.specs.Run.Run.{halted, got, wrote, moved}
@@ -44,10 +44,10 @@ sound-state p st h = rw (← h .held, ← h .total)
 
 module _ (s : Settings) (p : Pictures) (d e : Depths) (h g : Held) (j k : List ℕ) (v : ℕ) (b : Block) (c : Candidate) (x : List ℕ) (t : Edited) (post : SetPost s p d e h g j k v b c x t) (accepted : numberOf (t .refusal) ≡ 0) (sound : Sound s p d h) where
   early : earlyNumber s p d h v b c (length x) ≡ 0
-  early = call-zero s p d h v b c (length x) (post .found) (savingThen s b j 0) (sym (post .number) ∙ accepted)
+  early = set-early s p d h v b c x post accepted
 
   pub tested : Common s p d h
-  tested = common-facts s p d h (early-common s p d h v b c (length x) early)
+  tested = early-facts s p d h v b c (length x) early .0
 
   pub set-state : leaves (t .settings) e g ≡ plainState (plain s p (written s v b (filled b c x) d))
   unfolding plainState

@@ -2,7 +2,6 @@
 --     change-within           the change of the total by one depth sample is within the bound
 --     get-within, set-within  so is what an accepted GET or SET of one answers, on a session that is sound as it is read
 --     nothing-changes         where L is 0 or less the change is 0
---     tested                  what an accepted call has passed
 -- Enough, because the total changes by the change of the spans' sums: one row's span here, whose positions the bound counts, each with an error of at most
 -- 1,046,529 before and after.
 use Prim.Native.Nat.{ℕ, _+_, _-_, _*_, _<_, _≤_}
@@ -29,7 +28,7 @@ use Rattle.model.specs.Fresh.{freshTotal}
 use Rattle.model.specs.Candidates.{filled}
 use Rattle.model.specs.Blocks.{inRows, written, changeOf}
 use Rattle.model.specs.Span.{firstColumn, viewPlace, inSpan, spanHas}
-use Rattle.model.specs.Refusals.{numberOf, earlyNumber, savingThen}
+use Rattle.model.specs.Refusals.{numberOf, earlyNumber}
 use Rattle.model.specs.Promises.{Sound, GetPost, SetPost}
 use Rattle.model.proofs.Choice.{bool-cases, lt-or-le, and-off}
 use Rattle.model.proofs.Sums.{sum-most, sum-within}
@@ -38,7 +37,8 @@ use Rattle.model.proofs.Fresh.{DepthsSized}
 use Rattle.model.proofs.Written.{rows-under, rows-beyond}
 use Rattle.model.proofs.Totals.{errorAt, sample-most, sampleIn-most, square-most}
 use Rattle.model.proofs.Locality.{Columns, sized-written, spansError, change-spans}
-use Rattle.model.proofs.Refusals.{Inside, Common, OwnTests, common-facts, own-facts, early-common, early-own, call-zero}
+use Rattle.model.proofs.Refusals.{Inside, early-facts}
+use Rattle.model.proofs.Promises.{get-early, set-early}
 use Rattle.reach.specs.Reach.{OneDepth, mostChange, spanLength, reachOf}
 use Rattle.reach.proofs.Positions.{start, stop, outside, most-positions, sum-stretch}
 
@@ -142,26 +142,19 @@ module _ (s : Settings) (p : Pictures) (d : Depths) (v : ℕ) (b : Block) (c : L
 -- ---- GET and SET
 
 module _ (s : Settings) (p : Pictures) (d : Depths) (h : Held) (v : ℕ) (b : Block) (c : Candidate) (x : List ℕ) where
-  -- what has passed the tests before 8
-  pub tested : earlyNumber s p d h v b c (length x) ≡ 0 → Common s p d h × OwnTests s v b c (length x)
-  tested e = (
-    common-facts s p d h (early-common s p d h v b c (length x) e),
-    own-facts s v b c (length x) (early-own s p d h v b c (length x) e),
-  )
-
   early-within : earlyNumber s p d h v b c (length x) ≡ 0 → OneDepth b → natAbs (changeOf s p d v b (filled b c x)) ≤ reachOf s d v b (filled b c x)
-  early-within e one = let f = tested e in change-within s p d v b (filled b c x) (f .0 .depths) (f .0 .share) (f .1 .block) one
+  early-within e one = let f = early-facts s p d h v b c (length x) e in change-within s p d v b (filled b c x) (f .0 .depths) (f .0 .share) (f .1 .block) one
 
   pub get-within : (r : Trial) → GetPost s p d h v b c x r → Sound s p d (readHeld h) → numberOf (r .refusal) ≡ 0 → OneDepth b → natAbs (r .change) ≤ reachOf s d v b (filled b c x)
   get-within r post sound z one =
-      let e = call-zero s p d h v b c (length x) (post .found) 0 (sym (post .number) ∙ z) in
+      let e = get-early s p d h v b c x post z in
       subst (λ (n : ℤ). natAbs n ≤ reachOf s d v b (filled b c x)) (sym (post .change z ∙ post .decided e sound)) (early-within e one)
 
   pub set-within :
       (d′ : Depths) (h′ : Held) (j j′ : List ℕ) (r : Edited) → SetPost s p d d′ h h′ j j′ v b c x r → Sound s p d (readHeld h) → numberOf (r .refusal) ≡ 0 → OneDepth b →
       natAbs (r .change) ≤ reachOf s d v b (filled b c x)
   set-within d′ h′ j j′ r post sound z one =
-      let e = call-zero s p d h v b c (length x) (post .found) (savingThen s b j 0) (sym (post .number) ∙ z) in
+      let e = set-early s p d h v b c x post z in
       subst (λ (n : ℤ). natAbs n ≤ reachOf s d v b (filled b c x)) (sym (post .edit .change z ∙ post .edit .decided e sound)) (early-within e one)
 
 -- If L is 0 or less the answer is 0.

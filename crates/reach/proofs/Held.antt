@@ -33,13 +33,14 @@ use Rattle.model.proofs.Views.{seenLine, entry-within, entry-entry, getD-seen, 
 use Rattle.model.proofs.Signs.{signed-le, signed-place, signed-quarter, signed-low}
 use Rattle.model.proofs.Fresh.{DepthsSized, depths-length, wide, view-fresh}
 use Rattle.model.proofs.Written.{written-inside, written-own}
-use Rattle.model.proofs.Refusals.{Inside, Tables, call-zero}
+use Rattle.model.proofs.Refusals.{Inside, Tables, early-facts}
+use Rattle.model.proofs.Promises.{get-early}
 use Rattle.model.proofs.Locality.{sized-written}
 use Rattle.run.proofs.Steps.{limit-fresh}
 use Rattle.reach.specs.Reach.{OneDepth, fromZero, lowOf, highOf, lengthOf, mostChange, spanLength}
 use Rattle.reach.specs.Held.{lesser, placeWith, heldDepth, heldLimit, heldLow, heldHigh, heldLength}
 use Rattle.reach.proofs.Positions.{high-span}
-use Rattle.reach.proofs.Change.{tested, get-within}
+use Rattle.reach.proofs.Change.{get-within}
 
 -- raised numbers are ordered as what they stand for
 signed-min : (a b : ℕ) → signed (min a b) ≡ lesser (signed a) (signed b)
@@ -192,7 +193,7 @@ pub get-held :
     (s : Settings) (p : Pictures) (d : Depths) (h : Held) (v : ℕ) (b : Block) (c : Candidate) (x : List ℕ) (r : Trial) → GetPost s p d h v b c x r → Sound s p d (readHeld h) →
     numberOf (r .refusal) ≡ 0 → OneDepth b → natAbs (r .change) ≤ mostChange (heldLength s (isRight v) b d h (getD (filled b c x) 0 0))
 get-held s p d h v b c x r post sound z one =
-    let f = tested s p d h v b c x (call-zero s p d h v b c (length x) (post .found) 0 (sym (post .number) ∙ z)) in
+    let f = early-facts s p d h v b c (length x) (get-early s p d h v b c x post z) in
     subst (λ (l : ℤ). natAbs (r .change) ≤ mostChange l)
     (length-held s p d h v b (filled b c x) (f .0 .depths) (f .0 .tables) (f .1 .block) one sound)
     (get-within s p d h v b c x r post sound z one)

@@ -2,8 +2,8 @@
 --     session-within, shared-within     each accepted GET and SET of one depth sample, at its own point of the run, is within the bound
 --     kept-within                       and again after the caller has emptied the journal
 use Prim.Native.Nat.{ℕ, _≤_}
-use mathlib.Core.Path.{_≡_, sym, subst}
-use mathlib.Core.List.{List, [], _∷_}
+use mathlib.Core.Path.{_≡_, refl}
+use mathlib.Core.List.{List}
 use lib.ListN.{length}
 use lib.IntN.{natAbs}
 use borrow.Author.Tests.{eq-eqb}
@@ -17,14 +17,14 @@ use Rattle.model.specs.Blocks.{changeOf}
 use Rattle.model.specs.Journals.{emptied}
 use Rattle.model.specs.Refusals.{numberOf, ownThen, savingThen}
 use Rattle.model.specs.Promises.{OpenPost}
-use Rattle.run.specs.Run.{Call, Event, Run, leaves, Plain, plain, plainNumber, plainNext, plainAnswer, plainChange, plainReply, plainEvent, plainEvents}
+use Rattle.run.specs.Run.{Call, Event, Run, leaves, Plain, plain, plainNumber, plainNext, plainAnswer, plainChange, plainReply, plainEvent}
 use Rattle.run.specs.Run.Call.{get, set, move}
-use Rattle.run.specs.Shared.{SharedCall, SharedRun, SharedPlain, opened, standsAs, sharedNumber, sharedNext, sharedChange, sharedReply, sharedEvent, sharedEvents, sharedEnd}
+use Rattle.run.specs.Shared.{SharedCall, SharedRun, SharedPlain, opened, standsAs, sharedNumber, sharedNext, sharedChange, sharedReply, sharedEvent, sharedEnd}
 use Rattle.run.specs.Shared.SharedCall.{get as shared-get, set as shared-set, takeBack, move as shared-move}
 use Rattle.run.proofs.Steps.{Ready}
-use Rattle.run.proofs.Calls.{fill-ready, set-own}
-use Rattle.run.proofs.Run.{ready-next, session-run}
-use Rattle.run.proofs.Shared.{ready-turn, ready-shared, shared-run, shared-ready, kept-run}
+use Rattle.run.proofs.Calls.{set-own}
+use Rattle.run.proofs.Run.{session-all}
+use Rattle.run.proofs.Shared.{ready-turn, shared-all, kept-all}
 use Rattle.reach.specs.Reach.{OneDepth, reachOf}
 use Rattle.reach.specs.Runs.{CallWithin, AllWithin, SharedWithin, AllSharedWithin}
 use Rattle.reach.proofs.Change.{change-within}
@@ -47,11 +47,6 @@ call-within r ok (get v b c x) = answer-within r ok v b c x 0
 call-within r ok (set v b c x j) = answer-within r ok v b c x (savingThen (r .settings) b j 0)
 call-within r ok (move to reference j) = tt
 
-plain-within : (r : Plain) → Ready r → (ks : List Call) → AllWithin r ks (plainEvents r ks)
-unfolding AllWithin plainEvents
-plain-within r ok [] = tt
-plain-within r ok (k ∷ ks) = (call-within r ok k, plain-within (plainNext r k) (ready-next r ok k) ks)
-
 -- ---- runs with one journal
 
 shared-call-within : (r : SharedPlain) → Ready (r .start) → (k : SharedCall) → SharedWithin r k (sharedEvent r k)
@@ -61,30 +56,20 @@ shared-call-within r ok (shared-set v b c x) = answer-within (standsAs r) (ready
 shared-call-within r ok takeBack = tt
 shared-call-within r ok (shared-move to reference) = tt
 
-record-within : (r : SharedPlain) → Ready (r .start) → (ks : List SharedCall) → AllSharedWithin r ks (sharedEvents r ks)
-unfolding AllSharedWithin sharedEvents
-record-within r ok [] = tt
-record-within r ok (k ∷ ks) = (shared-call-within r ok k, record-within (sharedNext r k) (ready-shared r ok k) ks)
-
 -- ---- after an accepted OPEN
 
 module _ (s : Settings) (p : Pictures) (d : Depths) (h₀ h : Held) (j₀ j : List ℕ) (o : Opened) (post : OpenPost s p d h₀ h j₀ j o) (yes : numberOf (o .refusal) ≡ 0) where
-  ready-first : Ready (plain s p d)
-  ready-first = fill-ready s s p d h₀ h j₀ j o post yes
-
   pub session-within : {cs : List Call} {es : List Event} {last : State} → Run p (leaves (o .settings) d h) cs es last → AllWithin (plain s p d) cs es
-  session-within {cs = cs} run =
-      subst (AllWithin (plain s p d) cs) (sym (session-run s p d h₀ h j₀ j o post yes run .events)) (plain-within (plain s p d) ready-first cs)
+  unfolding AllWithin
+  session-within run = session-all s p d h₀ h j₀ j o post yes run (λ r. r) (λ r k e. plainNext r k) CallWithin (λ r k. refl) call-within
 
   pub shared-within : {cs : List SharedCall} {es : List Event} {last : State} {end : List ℕ} → SharedRun p (leaves (o .settings) d h) j cs es last end → AllSharedWithin (opened (plain s p d) j₀) cs es
-  shared-within {cs = cs} run =
-      subst (AllSharedWithin (opened (plain s p d) j₀) cs) (sym (shared-run s p d h₀ h j₀ j o post yes run .events)) (record-within (opened (plain s p d) j₀) ready-first cs)
+  unfolding AllSharedWithin
+  shared-within run = shared-all s p d h₀ h j₀ j o post yes run (λ r. r) (λ r k e. sharedNext r k) SharedWithin (λ r k. refl) shared-call-within
 
   pub kept-within :
       {cs ds : List SharedCall} {es fs : List Event} {last st : State} {end k : List ℕ} → SharedRun p (leaves (o .settings) d h) j cs es last end →
       let ends : SharedPlain = sharedEnd (opened (plain s p d) j₀) cs in
       SharedRun (ends .start .pictures) last (emptied end) ds fs st k → AllSharedWithin (opened (standsAs ends) end) ds fs
-  kept-within {cs = cs} {ds = ds} {end = end} run further =
-      let ends : SharedPlain = sharedEnd (opened (plain s p d) j₀) cs in
-      subst (AllSharedWithin (opened (standsAs ends) end) ds) (sym (kept-run s p d h₀ h j₀ j o post yes run further .events))
-      (record-within (opened (standsAs ends) end) (shared-ready s p d h₀ h j₀ j o post yes run) ds)
+  unfolding AllSharedWithin
+  kept-within run = kept-all s p d h₀ h j₀ j o post yes run (λ r. r) (λ r k e. sharedNext r k) SharedWithin (λ r k. refl) shared-call-within

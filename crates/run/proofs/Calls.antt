@@ -3,12 +3,13 @@
 --     fill-ready, fill-leaves         OPEN and MOVE leave such a session
 --     either                          the number of some tests and a rest is that of the tests or the rest
 --     Done, by-number, done-reply ..  what is shown of a call in both kinds of run, and what it answers and leaves by the number
+--     all-calls                       what holds of each call by the record as it finds it holds of all calls of a list
 --     sound-as-read                   such a session is sound as GET, SET and TAKE BACK read it
 --     get-done, set-done, ..          so of each
 use Prim.Native.Nat.{ℕ, _<_}
 use mathlib.Core.Path.{_≡_, refl, ap, sym, _∙_, subst}
 use mathlib.Core.Bool.{Bool, true, false, cond}
-use mathlib.Core.List.{List}
+use mathlib.Core.List.{List, [], _∷_}
 use mathlib.Core.Logic.{inl, inr}
 use lib.ListN.{length}
 use lib.Dec.{eqb}
@@ -30,10 +31,11 @@ use Rattle.model.specs.Promises.{FillPost, Sound, GetPost, EditPost, SetPost, T
 use Rattle.model.proofs.Choice.{bool-cases}
 use Rattle.model.proofs.Fresh.{fresh-total, freshTotal-total}
 use Rattle.model.proofs.Written.{written-total}
-use Rattle.model.proofs.Refusals.{unless-true, Before, Inside, OwnTests, passed, rest-passed, common-before, own-facts, own-before, own-total, taking-before, taken-before, call-zero}
+use Rattle.model.proofs.Refusals.{unless-true, Before, Inside, OwnTests, passed, rest-passed, common-before, own-facts, own-before, own-total, taking-before, taken-before}
 use Rattle.model.proofs.Journals.{saving-sides, taking-sides}
 use Rattle.model.proofs.Readings.{sound-read}
-use Rattle.model.proofs.Promises.{edit-settings}
+use Rattle.model.proofs.Promises.{get-early, set-early, edit-settings}
+use Rattle.run.specs.Calls.{eventsBy, AllBy}
 use Rattle.run.specs.Run.{Reply, Event, Plain, plain, replyOf, leaves, picturesAfter, moveNumber, plainAnswer, plainState, Local, Refuses, Edits, Moves, OfMove}
 use Rattle.run.proofs.Steps.{Ready, ready, ready-written, ready-common, ready-move, ready-moved, changeOf-total, state-total, state-sound, local-written}
 
@@ -181,6 +183,15 @@ pub move-kept : {r next : Plain} {n : ℕ} {x : ℤ} {j new : List ℕ} {e : Eve
 unfolding plainState
 move-kept h same = (done-refuses h, λ z. ap (λ (x : State). x .depths) (h .after z) ∙ same)
 
+-- ---- every call of a list
+
+-- What holds of each call by the record as the call finds it holds of all of them. x is a record of either kind, `step` what a call makes of it and `event` the call's
+-- event; Ok is what the calls keep of a record. The claim P may speak of something else that goes along, `at x` for the record x: the session, for example.
+module _ {X R K : Type 0} (step : X → K → X) (event : X → K → Event) (Ok : X → Type 0) (keeps : (x : X) → Ok x → (k : K) → Ok (step x k)) (at : X → R) (next : R → K → Event → R) (P : R → K → Event → Type 0) (follows : (x : X) (k : K) → next (at x) k (event x k) ≡ at (step x k)) (each : (x : X) → Ok x → (k : K) → P (at x) k (event x k)) where
+  pub all-calls : (x : X) → Ok x → (ks : List K) → AllBy next P (at x) ks (eventsBy step event x ks)
+  all-calls x ok [] = tt
+  all-calls x ok (k ∷ ks) = (each x ok k, rw (follows x k) (all-calls (step x k) (keeps x ok k) ks))
+
 -- ---- the session
 
 module _ (r : Plain) (ok : Ready r) where
@@ -261,7 +272,7 @@ module _ (r : Plain) (ok : Ready r) where
         record {
           number = h .number ∙ call v b c x (h .found) 0 (h .in-range);
           change = λ z.
-              h .change z ∙ h .decided (call-zero S p d F v b c (length x) (h .found) 0 (sym (h .number) ∙ z)) sound-as-read
+              h .change z ∙ h .decided (get-early S p d F v b c x h z) sound-as-read
               ∙ changeOf-total s _ p d v b (filled b c x);
           refused-change = h .refused;
           after = λ z. now;
@@ -278,7 +289,7 @@ module _ (r : Plain) (ok : Ready r) where
     set-done v b c x t e g k post =
         let h = carried (λ (p : Pictures) (y : State) (j : List ℕ). SetPost (y .settings) p (y .depths) e (y .held) g j k v b c x t) post in
         let n = h .number ∙ call v b c x (h .found) _ (h .edit .in-range) ∙ ap (ownThen s v b c (length x)) (saving-sides S s b J 0 refl refl) in
-        edit v b (filled b c x) _ _ t e g (h .edit) (λ z. call-zero S p d F v b c (length x) (h .found) (savingThen S b J 0) (sym (h .number) ∙ z))
+        edit v b (filled b c x) _ _ t e g (h .edit) (set-early S p d F v b c x h)
         _ n J _ k (h .refused-journal) (h .journal)
 
     pub take-done :

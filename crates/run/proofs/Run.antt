@@ -3,7 +3,7 @@
 --     halted-as-opened     what a run leaves is what a fresh OPEN leaves, with the settings and reference of the last accepted MOVE
 --     halted-opens         and such an OPEN is accepted
 --     halted-sound         what a run leaves is sound as GET reads it
---     ready-next           every record of a run has passed the tests of OPEN, or of the last accepted MOVE
+--     session-all          what holds of each call by the record as it finds it holds of all calls of a run
 --     halts                a run halted after any of its calls is a run
 use Prim.Native.Nat.{ℕ, zero, suc, _*_, _<_}
 use mathlib.Core.Path.{_≡_, refl, ap, sym, _∙_, subst}
@@ -18,11 +18,12 @@ use Rattle.model.specs.Candidates.{filled}
 use Rattle.model.specs.Refusals.{numberOf, journalOk, roomOk, openNumber, savingThen}
 use Rattle.model.specs.Promises.{Sound, OpenPost}
 use Rattle.model.proofs.Refusals.{HeldOf, own-before, own-usual}
+use Rattle.run.specs.Calls.{AllBy}
 use Rattle.run.specs.Run.{Call, Event, Run, leaves, Plain, plain, plainNumber, plainAccepted, plainNext, plainJournal, plainChange, plainReply, plainState, plainEvent, plainEvents, plainEnd, Kept, AllKept, Usual, AllUsual, RunPost, stateAfter}
 use Rattle.run.specs.Run.Call.{get, set, move}
 use Rattle.run.specs.Run.Run.{halted, got, wrote, moved}
 use Rattle.run.proofs.Steps.{Ready, ready-open, ready-written, ready-moved}
-use Rattle.run.proofs.Calls.{fill-ready, fill-leaves, chosen, next-pictures, either, unless-either, move-usual, set-own, Done, event-same, done-reply, done-after, done-journal, done-ready, sound-as-read, get-done, set-done, move-done, edit-kept, move-kept}
+use Rattle.run.proofs.Calls.{fill-ready, fill-leaves, chosen, next-pictures, either, unless-either, move-usual, set-own, Done, event-same, done-reply, done-after, done-journal, done-ready, all-calls, sound-as-read, get-done, set-done, move-done, edit-kept, move-kept}
 
 -- the numbers of a call, by the record
 call-usual : (r : Plain) (k : Call) → Usual k (plainNumber r k)
@@ -35,7 +36,7 @@ call-usual r (set v b c x j) =
 call-usual r (move to reference j) = move-usual (Usual (move to reference j)) (λ n u. inl u) (r .settings) to reference j (λ t. inr refl)
 
 -- what OPEN, or the last accepted MOVE, has tested holds after a call too
-pub ready-next : (r : Plain) → Ready r → (k : Call) → Ready (plainNext r k)
+ready-next : (r : Plain) → Ready r → (k : Call) → Ready (plainNext r k)
 unfolding plainNext plainAccepted plainNumber
 ready-next r ok (get v b c x) = chosen Ready (plainNumber r (get v b c x)) r r (λ z. ok) (λ z. ok)
 ready-next r ok (set v b c x j) = chosen Ready (plainNumber r (set v b c x j)) _ r (λ z. ready-written r ok v b (filled b c x)) (λ z. ok)
@@ -91,11 +92,20 @@ module _ (s : Settings) (p : Pictures) (d : Depths) (h₀ h : Held) (j₀ j : Li
   leaves-first : leaves (o .settings) d h ≡ plainState (plain s p d)
   leaves-first = fill-leaves s s p d h₀ h j₀ j o post accepted
 
+  ready-first : Ready (plain s p d)
+  ready-first = fill-ready s s p d h₀ h j₀ j o post accepted
+
   from-first : From (plain s p d) cs es last
-  from-first = go (plain s p d) (fill-ready s s p d h₀ h j₀ j o post accepted) run refl leaves-first
+  from-first = go (plain s p d) ready-first run refl leaves-first
 
   pub session-run : RunPost (plain s p d) (leaves (o .settings) d h) cs es last
   session-run = rw leaves-first (from-first .0)
+
+  pub session-all :
+      {R : Type 0} (at : Plain → R) (next : R → Call → Event → R) (P : R → Call → Event → Type 0) → ((r : Plain) (k : Call) → next (at r) k (plainEvent r k) ≡ at (plainNext r k)) →
+      ((r : Plain) → Ready r → (k : Call) → P (at r) k (plainEvent r k)) → AllBy next P (at (plain s p d)) cs es
+  unfolding plainEvents
+  session-all at next P follows each = rw (session-run .events) (all-calls plainNext plainEvent Ready ready-next at next P follows each (plain s p d) ready-first cs)
 
   -- the record at the run's end
   abbrev ends : Plain

@@ -8,7 +8,8 @@
 --     shared-halts         such a run halted after any of its calls is one
 --     get-next             a GET leaves the plain record as it was
 --     ready-turn           what OPEN has tested holds with any SETs standing
---     ready-shared         and after any call
+--     shared-all           what holds of each call by the record as it finds it holds of all calls of such a run
+--     kept-all             and of all calls after the caller has emptied the journal
 use Prim.Native.Nat.{ℕ, zero, suc, _*_, _<_}
 use mathlib.Core.Path.{_≡_, refl, ap, sym, _∙_, subst}
 use mathlib.Core.Bool.{Bool, cond}
@@ -32,12 +33,13 @@ use Rattle.model.specs.Refusals.{numberOf, journalOk, roomOk, someRecord, openN
 use Rattle.model.specs.Promises.{Sound, EightBit, OpenPost}
 use Rattle.model.proofs.Choice.{bool-cases}
 use Rattle.model.proofs.Refusals.{HeldOf, unless-true, unless-rest, rest-passed, own-before, own-usual}
+use Rattle.run.specs.Calls.{AllBy}
 use Rattle.run.specs.Run.{Event, leaves, Plain, plain, plainState, OfMove, stateAfter}
 use Rattle.run.specs.Shared.{SharedCall, SharedRun, Standing, SharedPlain, inTurn, struck, opened, withStanding, standsAs, plainTotal, sharedNumber, accepted, sharedNext, sharedChange, sharedReply, sharedEvent, sharedEvents, sharedEnd, SharedKept, AllSharedKept, Found, stackAfter, Restores, AllRestore, SharedUsual, AllSharedUsual, SharedPost, journalAfter}
 use Rattle.run.specs.Shared.SharedCall.{get, set, takeBack, move}
 use Rattle.run.specs.Shared.SharedRun.{halted, got, wrote, took, moved}
 use Rattle.run.proofs.Steps.{Ready, ready-open, ready-written, ready-moved}
-use Rattle.run.proofs.Calls.{fill-ready, fill-leaves, fill-words, chosen, next-pictures, either, unless-either, move-usual, set-own, Done, by-number, event-same, done-reply, done-as, sound-as-read, get-done, set-done, take-done, move-done, edit-kept, move-kept}
+use Rattle.run.proofs.Calls.{fill-ready, fill-leaves, fill-words, chosen, next-pictures, either, unless-either, move-usual, set-own, Done, by-number, event-same, done-reply, done-as, all-calls, sound-as-read, get-done, set-done, take-done, move-done, edit-kept, move-kept}
 use Rattle.run.proofs.Ledger.{Ledger, ledger-ok, taking-none, taking-some, ledger-opened, ledger-saved, ledger-taken, taken-restores, taken-inside}
 
 -- ---- the SETs standing
@@ -48,7 +50,7 @@ ready-turn r ok [] = ok
 ready-turn r ok (k ∷ ks) = ready-written (withStanding r ks) (ready-turn r ok ks) (k .view) (k .block) (k .depths)
 
 -- and after a call, with what is drawn then
-pub ready-shared : (r : SharedPlain) → Ready (r .start) → (k : SharedCall) → Ready (sharedNext r k .start)
+ready-shared : (r : SharedPlain) → Ready (r .start) → (k : SharedCall) → Ready (sharedNext r k .start)
 unfolding sharedNext accepted sharedNumber
 ready-shared r ok (get v b c x) = chosen (λ (y : SharedPlain). Ready (y .start)) (sharedNumber r (get v b c x)) _ r (λ z. ok) (λ z. ok)
 ready-shared r ok (set v b c x) = chosen (λ (y : SharedPlain). Ready (y .start)) (sharedNumber r (set v b c x)) _ r (λ z. ok) (λ z. ok)
@@ -337,6 +339,19 @@ module _ (s : Settings) (p : Pictures) (d : Depths) (h₀ h : Held) (j₀ j : Li
       let words = subst (λ (x : List ℕ). 0 < length x) (sym (f .journal)) (f .between .ledger .words) in
       posted (f .state) refl
       (from-empty (standsAs ends) shared-ready (f .between .ledger .eight-bit) end words further (f .state) refl)
+
+  module _ {R : Type 0} (at : SharedPlain → R) (next : R → SharedCall → Event → R) (P : R → SharedCall → Event → Type 0) (follows : (r : SharedPlain) (k : SharedCall) → next (at r) k (sharedEvent r k) ≡ at (sharedNext r k)) (each : (r : SharedPlain) → Ready (r .start) → (k : SharedCall) → P (at r) k (sharedEvent r k)) where
+    record-all : (r : SharedPlain) → Ready (r .start) → (ks : List SharedCall) → AllBy next P (at r) ks (sharedEvents r ks)
+    unfolding sharedEvents
+    record-all = all-calls sharedNext sharedEvent (λ (r : SharedPlain). Ready (r .start)) ready-shared at next P follows each
+
+    pub shared-all : AllBy next P (at (opened (plain s p d) j₀)) cs es
+    shared-all = rw (shared-run .events) (record-all (opened (plain s p d) j₀) ready-first cs)
+
+    pub kept-all :
+        {ds : List SharedCall} {fs : List Event} {st : State} {k : List ℕ} → SharedRun (ends .start .pictures) last (emptied end) ds fs st k →
+        AllBy next P (at (opened (standsAs ends) end)) ds fs
+    kept-all {ds = ds} further = rw (kept-run further .events) (record-all (opened (standsAs ends) end) shared-ready ds)
 
   -- A fresh OPEN that is passed what the record ends with is accepted where the held planes lent to it have their lengths and the journal a word.
   pub shared-opens :
