@@ -2,11 +2,10 @@
  * Makes the same GET many times through the header, so that a profiler can tell what a GET costs whatever its block. docs/SPEED.md says
  * how, and what was counted.
  *
- *     cost [full | value | line | mask | tree | leaf | refused] [SIDE]
+ *     cost [full | value | line | mask | refused] [SIDE]
  *
- * SIDE is 1 where it is not given. `tree` is a tree of four leaves and `leaf` a tree of one, both with the depths of the full
- * block. `refused` makes GETs that are refused with 7, which end before the trial; a line at 1 x 1 is refused with 14, a tree or
- * leaf of another side than 4, 8 or 16 with 16, and a tree of side 4, which would be a split, with 17.
+ * SIDE is 1 where it is not given. `refused` makes GETs that are refused with 7, which end before the trial; a line at 1 x 1 is
+ * refused with 14.
  */
 #include <stdio.h>
 #include <stdlib.h>
@@ -33,7 +32,6 @@ static int (*volatile caller)(const luph_settings *, const luph_pictures *, cons
 /* A candidate of the named kind for a block of side x side, and the number that GET answers; -1 where there is no such kind. */
 static int named(const char *kind, uint32_t side, luph_candidate *candidate) {
     static uint8_t depths[WIDEST * WIDEST + 1], bits[WIDEST * WIDEST / 8 + 1];
-    static const uint8_t tree[9] = {1, 0, 9, 0, 9, 0, 9, 0, 9};
     const size_t area = (size_t)side * side;
     memset(depths, 9, sizeof depths);
     memset(bits, 0x35, sizeof bits);
@@ -41,13 +39,9 @@ static int named(const char *kind, uint32_t side, luph_candidate *candidate) {
     else if (strcmp(kind, "value") == 0) *candidate = luph_flat(9);
     else if (strcmp(kind, "line") == 0) *candidate = luph_line(0, 0, side - 1, side - 1, 9, 5);
     else if (strcmp(kind, "mask") == 0) *candidate = luph_mask((luph_in){bits, (area + 7) / 8}, 9, 5);
-    else if (strcmp(kind, "tree") == 0) *candidate = luph_tree((luph_in){tree, 9});
-    else if (strcmp(kind, "leaf") == 0) *candidate = luph_tree((luph_in){tree + 1, 2});
     else if (strcmp(kind, "refused") == 0) *candidate = luph_full((luph_in){depths, area + 1});
     else return -1;
     if (strcmp(kind, "refused") == 0) return LUPH_REFUSED_CANDIDATE;
-    if (candidate->kind == LUPH_TREE && side != 4 && side != 8 && side != 16) return LUPH_REFUSED_SIDE;
-    if (strcmp(kind, "tree") == 0 && side == 4) return LUPH_REFUSED_TREE;
     return candidate->kind == LUPH_LINE && side == 1 ? LUPH_REFUSED_LINE : LUPH_ACCEPTED;
 }
 
@@ -57,7 +51,7 @@ int main(int count, char **words) {
     luph_candidate candidate;
     const int expected = side < 1 || side > WIDEST ? -1 : named(kind, side, &candidate);
     if (expected < 0) {
-        fprintf(stderr, "usage: cost [full | value | line | mask | tree | leaf | refused] [SIDE from 1 to %d]\n", WIDEST);
+        fprintf(stderr, "usage: cost [full | value | line | mask | refused] [SIDE from 1 to %d]\n", WIDEST);
         return 1;
     }
     luph_pictures p;

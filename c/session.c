@@ -1,7 +1,7 @@
 /*
  * The small session of document 01 (cases k, l and m), reports, refused calls, drawn rows (case g and card 7's), samples of ten
- * bits and above, candidates of every kind, trees, SETs taken back, a seat that moves, how far one depth can move the total, and
- * two SETs in both orders, from C. Its output is compared with session.out. It compiles as C99 and as C++.
+ * bits and above, candidates of every kind, SETs taken back, a seat that moves, how far one depth can move the total, and two SETs
+ * in both orders, from C. Its output is compared with session.out. It compiles as C99 and as C++.
  */
 #include <stddef.h>
 #include <stdio.h>
@@ -328,15 +328,15 @@ static void refused(luph_settings *s, const luph_pictures *p, const luph_planes 
     print_candidate("a mask of NULL", s, p, q, middle, luph_mask(in(NULL, 2), 4, 9));
     print_candidate("a full block of NULL", s, p, q, middle, luph_full(in(NULL, 9)));
     print_candidate("a full block with a depth less", s, p, q, middle, luph_full(in(bytes, 8)));
-    print_candidate("kind 5", s, p, q, middle, of_kind(luph_full(in(bytes, 9)), 5));
+    print_candidate("kind 4", s, p, q, middle, of_kind(luph_full(in(bytes, 9)), 4));
     print_candidate("kind 4,294,967,295", s, p, q, middle, of_kind(luph_full(in(bytes, 9)), 4294967295u));
-    print_candidate("kind 5 with bytes nowhere", s, p, q, middle, of_kind(with_bytes(line, in((const uint8_t *)1, 9)), 5));
+    print_candidate("kind 4 with bytes nowhere", s, p, q, middle, of_kind(with_bytes(line, in((const uint8_t *)1, 9)), 4));
     print_candidate("a wrong line past an edge", s, p, q, past, line);
     print_candidate("a wrong mask past an edge", s, p, q, past, mask);
-    print_candidate("kind 5 past an edge", s, p, q, past, of_kind(line, 5));
+    print_candidate("kind 4 past an edge", s, p, q, past, of_kind(line, 4));
     printf("of view 2: a line %d", luph_get(s, p, q, 2, past, line, &change));
     printf(", a mask %d", luph_get(s, p, q, 2, past, mask, &change));
-    printf(", kind 5 %d", luph_get(s, p, q, 2, past, of_kind(mask, 5), &change));
+    printf(", kind 4 %d", luph_get(s, p, q, 2, past, of_kind(mask, 4), &change));
     printf(", change %ld\n", (long)change);
 }
 
@@ -362,94 +362,6 @@ static void candidates(luph_settings s) {
     print_open(&s, &p, &q);
     accepted(&s, &p, &q);
     refused(&s, &p, &q);
-    print_check(&s, &p, &q);
-}
-
-/* A picture of 12 x 10 for trees, in which a block of 8 x 8 begins at column 3 and row 1. */
-enum { WIDE = 12, HIGH = 10, WIDE_AREA = WIDE * HIGH, WIDE_MARKS = (WIDE + 7) / 8 * HIGH, RECORD = 6 + 64 };
-static const luph_block square = {3, 1, 8, 8};
-static uint8_t wide_depth[2][WIDE_AREA];
-static uint32_t wide_words[1 + RECORD];
-
-/* GET and SET of a candidate for a block of the right view. Where SET accepts it, the rows of depths that differ from those above. */
-static void print_tree(const char *name, luph_settings *s, const luph_pictures *p, const luph_planes *q, luph_block b,
-    luph_candidate candidate) {
-    const luph_journal j = {wide_words, 1 + RECORD};
-    int64_t tried = 999, change = 999;
-    luph_keep(j);
-    const int get = luph_get(s, p, q, 1, b, candidate, &tried), set = luph_set(s, p, q, j, 1, b, candidate, &change);
-    printf("%s: get %d, change %ld; set %d, change %ld, total %lu\n", name, get, (long)tried, set, (long)change, (unsigned long)s->total);
-    for (int y = 0; set == LUPH_ACCEPTED && y < HIGH; y++) {
-        const uint8_t *row = wide_depth[1] + WIDE * y;
-        if (y > 0 && memcmp(row, row - WIDE, WIDE) == 0) continue;
-        printf("from row %d:", y);
-        for (int x = 0; x < WIDE; x++) printf(" %d", row[x]);
-        printf("\n");
-    }
-}
-
-/* Trees that are taken, one of them taken back from its one record, and the same as full blocks. */
-static void accepted_trees(luph_settings *s, const luph_pictures *p, const luph_planes *q) {
-    static const uint8_t flat[2] = {0, 6}, four[9] = {1, 0, 1, 0, 0, 0, 2, 0, 7};
-    static uint8_t depths[64];
-    const luph_block corner = {8, 6, 4, 4};
-    const luph_journal j = {wide_words, 1 + RECORD};
-    int64_t change = 999;
-    for (int i = 0; i < 64; i++) depths[i] = four[2 + 4 * (i / 32) + 2 * (i % 8 / 4)];
-    print_tree("a tree of one leaf", s, p, q, square, luph_tree(in(flat, 2)));
-    print_tree("a tree of four leaves", s, p, q, square, luph_tree(in(four, 9)));
-    printf("words");
-    for (int i = 0; i < 9; i++) printf(" %lu", (unsigned long)wide_words[i]);
-    printf("\n");
-    const int back = luph_take_back(s, p, q, j, &change);
-    printf("take back: %d, change %ld, total %lu, word 0 is %lu\n", back, (long)change, (unsigned long)s->total, (unsigned long)wide_words[0]);
-    print_tree("the same as a full block", s, p, q, square, luph_full(in(depths, 64)));
-    print_tree("and as a tree again", s, p, q, square, luph_tree(in(four, 9)));
-    print_tree("a tree of side 4 in a corner", s, p, q, corner, luph_tree(in(flat, 2)));
-}
-
-/* 16 and 17, each after 5 and 6. */
-static void refused_trees(luph_settings *s, const luph_pictures *p, const luph_planes *q) {
-    static const uint8_t bytes[10] = {1, 0, 1, 0, 0, 0, 2, 0, 7, 0}, tag[2] = {2, 6};
-    const luph_block narrow = {3, 1, 4, 8}, two = {3, 1, 2, 2}, ten = {0, 0, 10, 10}, four = {0, 0, 4, 4}, past = {5, 1, 8, 9};
-    int64_t change = 999;
-    print_tree("a tree of 4 x 8", s, p, q, narrow, luph_tree(in(bytes, 9)));
-    print_tree("a tree of side 2", s, p, q, two, luph_tree(in(bytes + 1, 2)));
-    print_tree("a tree of side 10", s, p, q, ten, luph_tree(in(bytes + 1, 2)));
-    print_tree("a tree of a byte less", s, p, q, square, luph_tree(in(bytes, 8)));
-    print_tree("a tree of a byte more", s, p, q, square, luph_tree(in(bytes, 10)));
-    print_tree("a tree of no bytes", s, p, q, square, luph_tree(in(bytes, 0)));
-    print_tree("a tree of NULL", s, p, q, square, luph_tree(in(NULL, 9)));
-    print_tree("a tag of 2", s, p, q, square, luph_tree(in(tag, 2)));
-    print_tree("a split of side 4", s, p, q, four, luph_tree(in(bytes, 9)));
-    print_tree("no tree in 4 x 8", s, p, q, narrow, luph_tree(in(tag, 2)));
-    print_tree("no tree past an edge", s, p, q, past, luph_tree(in(tag, 2)));
-    printf("of view 2: no tree past an edge %d, change %ld\n", luph_get(s, p, q, 2, past, luph_tree(in(tag, 2)), &change), (long)change);
-}
-
-static void trees(luph_settings s) {
-    static uint16_t wide_picture[WIDE_AREA], wide_sample[2][WIDE_AREA], wide_combined[WIDE_AREA];
-    static uint8_t wide_front[2][WIDE_AREA], wide_marks[2][WIDE_MARKS];
-    static int16_t wide_limit[2][WIDE_AREA];
-    luph_pictures p;
-    luph_planes q;
-    for (int i = 0; i < WIDE_AREA; i++) wide_picture[i] = (uint16_t)(8 * i + i % 7);
-    p.texture[0] = p.texture[1] = p.reference = picture(wide_picture, WIDE_AREA);
-    for (int v = 0; v < 2; v++) {
-        q.depth[v] = out(wide_depth[v], WIDE_AREA);
-        q.sample[v] = samples(wide_sample[v], WIDE_AREA);
-        q.front[v] = out(wide_front[v], WIDE_AREA);
-        q.marks[v] = out(wide_marks[v], WIDE_MARKS);
-        q.limit[v].data = wide_limit[v];
-        q.limit[v].len = WIDE_AREA;
-    }
-    q.combined = samples(wide_combined, WIDE_AREA);
-    s.w = WIDE;
-    s.h = HIGH;
-    s.share = 64; /* what the right view shows is seen */
-    print_open(&s, &p, &q);
-    accepted_trees(&s, &p, &q);
-    refused_trees(&s, &p, &q);
     print_check(&s, &p, &q);
 }
 
@@ -766,7 +678,6 @@ int main(void) {
     rows(&s);
     ten_bits(&s, &q);
     candidates(s);
-    trees(s);
     journals(&s, &p, &q);
     seats(&s, &p, &q);
     bounds(&s, &q);

@@ -8,11 +8,11 @@
  * A session is a luph_settings record, the pictures it is about and the planes that the caller keeps for it.
  * luph_open fills the held planes. luph_get answers how the total would change if a block of depths were
  * replaced, and writes nothing; luph_set replaces it. What takes the block's place is a candidate: a full block of
- * depths, one value, two regions with a value each, parted by a line or by a mask, or a tree of flat squares. luph_set
- * saves the depths that were there in a journal, and luph_take_back writes the newest saved ones back. luph_move moves
- * the seat, the position that the combined picture is shown from: with new settings and a new reference it draws
- * everything again over the depths as they stand. Between these calls the caller keeps pictures, planes and settings as
- * the last call left them; from an accepted luph_move on, the reference is the one that it was passed.
+ * depths, one value, or two regions with a value each, parted by a line or by a mask. luph_set saves the depths that
+ * were there in a journal, and luph_take_back writes the newest saved ones back. luph_move moves the seat, the position
+ * that the combined picture is shown from: with new settings and a new reference it draws everything again over the
+ * depths as they stand. Between these calls the caller keeps pictures, planes and settings as the last call left them;
+ * from an accepted luph_move on, the reference is the one that it was passed.
  *
  * Lengths, in entries, for w columns and h rows, all in row order:
  *
@@ -90,8 +90,6 @@ enum {
     LUPH_REFUSED_JOURNAL = 13,              /* a journal of no words; or, but for luph_open and luph_move, one with a wrong chain of records */
     LUPH_REFUSED_LINE = 14,                 /* a line's point inside the block or outside it, or two points on one side */
     LUPH_REFUSED_MASK = 15,                 /* a mask without (width * height + 7) / 8 bytes */
-    LUPH_REFUSED_SIDE = 16,                 /* a tree for a block that is not square with a side of 4, 8, 16, 32 or 64 */
-    LUPH_REFUSED_TREE = 17,                 /* a tree whose bytes are not exactly one tree of the block's side */
     LUPH_REFUSED_GAP = 20,                  /* widest_gap outside 4 to 64, or torn_distance above 3 */
     LUPH_REFUSED_SAMPLE = 21                /* luph_open and luph_move: a texture or reference entry above 1,023 */
 };
@@ -180,10 +178,10 @@ typedef struct luph_block {
 } luph_block;
 
 /* The kinds of a candidate. */
-enum { LUPH_FULL = 0, LUPH_FLAT = 1, LUPH_LINE = 2, LUPH_MASK = 3, LUPH_TREE = 4 };
+enum { LUPH_FULL = 0, LUPH_FLAT = 1, LUPH_LINE = 2, LUPH_MASK = 3 };
 
 /*
- * What luph_get tries and luph_set writes in a block; luph_full, luph_flat, luph_line, luph_mask and luph_tree make one.
+ * What luph_get tries and luph_set writes in a block; luph_full, luph_flat, luph_line and luph_mask make one.
  *
  * A line goes from one point of the block's border to another. The sides of a block are its first and last column and
  * its first and last row; a corner lies on two. The points have no side in common, so that a block of one column or
@@ -196,21 +194,13 @@ enum { LUPH_FULL = 0, LUPH_FLAT = 1, LUPH_LINE = 2, LUPH_MASK = 3, LUPH_TREE = 4
  *
  * A mask has a bit for each position, by rows without gaps, low bit first: position k, counted by rows, has bit k % 8
  * of byte k / 8. 1 is region 1. The bits past the last position are not looked at.
- *
- * A tree is for a square block with a side of 4, 8, 16, 32 or 64. Its bytes are one node, that of the block:
- *
- *     0, depth                a flat node: the depth of its whole square
- *     1, four nodes           a split: the nodes of its quarters by rows, upper left, upper right, lower left, lower right
- *
- * A node of side 4 is always flat. The bytes are exactly one tree, with none to spare. The longest tree has 2 bytes for a
- * side of 4, 9 for 8, 37 for 16, 149 for 32 and 597 for 64.
  */
 typedef struct luph_candidate {
     uint32_t kind;                    /* one of the above; another number is refused with 7 */
     uint8_t value[2];                 /* one value: value[0]; line and mask: the values of region 0 and of region 1 */
     uint32_t start_column, start_row; /* a line's start, counted from the block's first column and row */
     uint32_t end_column, end_row;     /* its end */
-    luph_in bytes;                    /* full block: its depths in row order; mask: its bits; tree: its nodes; else not looked at */
+    luph_in bytes;                    /* full block: its depths in row order; mask: its bits; else not looked at */
 } luph_candidate;
 
 /* A full block: width * height depths in row order. */
@@ -235,12 +225,6 @@ static inline luph_candidate luph_line(uint32_t start_column, uint32_t start_row
 /* Two regions, told by a mask of (width * height + 7) / 8 bytes. */
 static inline luph_candidate luph_mask(luph_in bits, uint8_t value0, uint8_t value1) {
     const luph_candidate x = {LUPH_MASK, {value0, value1}, 0, 0, 0, 0, bits};
-    return x;
-}
-
-/* A tree of flat squares, for a square block with a side of 4, 8, 16, 32 or 64. */
-static inline luph_candidate luph_tree(luph_in bytes) {
-    const luph_candidate x = {LUPH_TREE, {0, 0}, 0, 0, 0, 0, bytes};
     return x;
 }
 
@@ -375,8 +359,7 @@ static inline luph_in luph_private_bytes(luph_candidate x) {
     const luph_in empty = {&none, 0};
     switch (x.kind) {
     case LUPH_FULL:
-    case LUPH_MASK:
-    case LUPH_TREE: return x.bytes.data == NULL ? empty : x.bytes;
+    case LUPH_MASK: return x.bytes.data == NULL ? empty : x.bytes;
     default: return empty;
     }
 }
@@ -505,9 +488,9 @@ static inline int luph_move(luph_settings *s, const luph_pictures *p, const luph
 
 /*
  * GET: answers in *change how the total would change if the block of the view's depths were the candidate: a full
- * block's depths, or the values of one value, a line, a mask or a tree at the positions that they fill. Reads samples
- * above 1,023, of the pictures and of the planes, as 1,023. Writes no plane. Refuses 1, 2, 3, 4, 20, 6, 5, then by the
- * candidate's kind 7 (a full block, or an unknown kind), 14 (a line), 15 (a mask) or 16 and 17 (a tree), then 8.
+ * block's depths, or the values of one value, a line or a mask at the positions that they fill. Reads samples above
+ * 1,023, of the pictures and of the planes, as 1,023. Writes no plane. Refuses 1, 2, 3, 4, 20, 6, 5, then by the
+ * candidate's kind 7 (a full block, or an unknown kind), 14 (a line) or 15 (a mask), then 8.
  *
  * How far one depth can move the total is known before the call, whatever the pictures show: rate controllers can plan by it.
  * Take a block of one column x and one row y, in a session that is kept as above. A caller needs the view's table and, from
@@ -548,8 +531,8 @@ static inline int luph_get(const luph_settings *s, const luph_pictures *p, const
 
 /*
  * SET: writes the candidate into the block, brings the held planes up to date, saves the depths that were there in the
- * journal as one record, a tree's too, in 6 + width * height words, and answers the change in *change and the new total
- * in s->total. Reads samples and refuses as GET does, in that order, then 13 and 11.
+ * journal, in 6 + width * height words, and answers the change in *change and the new total in s->total. Reads samples
+ * and refuses as GET does, in that order, then 13 and 11.
  *
  * 13: the journal has no words, or somewhere in the chain of its records an index is not below the one before it, a
  * record reaches past the end of the journal, its block is empty or reaches past an edge of the picture, its view is

@@ -1,10 +1,9 @@
 //! What is tried and written in a block.
 
-/// What takes the place of a block's depths: a full block, one value, two regions with one value each, or a tree of flat
-/// squares.
+/// What takes the place of a block's depths: a full block, one value, or two regions with one value each.
 ///
-/// GET and SET answer as for the full block that a candidate fills. It is small and can be copied; depths, bits and a tree's
-/// bytes are borrowed.
+/// GET and SET answer as for the full block that a candidate fills. It is small and can be copied; depths and bits are
+/// borrowed.
 ///
 /// ```
 /// use luphwezane::{Block, Candidate, Pictures, Point, Refusal, Session, Settings, View};
@@ -36,38 +35,6 @@
 /// assert_eq!(session.get(View::Left, block, level), Err(Refusal::Line));
 /// # Ok::<(), luphwezane::Refusal>(())
 /// ```
-///
-/// A tree:
-///
-/// ```
-/// use luphwezane::{Block, Candidate, Pictures, Refusal, Session, Settings, View};
-///
-/// let table = std::array::from_fn(|d| d as u16);
-/// let settings =
-///     Settings { w: 8, h: 8, left: table, right: table, share: 0, tolerance: 255, widest_gap: 8, torn_distance: 1, total: 0 };
-/// let texture: Vec<u16> = (0..64).map(|at| 15 * at).collect();
-/// let pictures = Pictures { textures: [&texture, &texture], reference: &texture };
-/// let mut session = Session::open(&settings, &pictures, [&[0; 64], &[0; 64]])?;
-/// let block = Block { column: 0, row: 0, width: 8, height: 8 };
-///
-/// // A split with four flat quarters: 1 and 2 above, 3 and 4 below.
-/// let tree = Candidate::Tree(&[1, 0, 1, 0, 2, 0, 3, 0, 4]);
-/// let change = session.get(View::Left, block, tree)?;
-/// assert_eq!(session.set(View::Left, block, tree)?, change);
-/// for (row, values) in session.planes().depths[0].chunks(8).zip([[1, 2], [1, 2], [1, 2], [1, 2], [3, 4], [3, 4], [3, 4], [3, 4]]) {
-///     assert_eq!(row, values.map(|depth| [depth; 4]).concat());
-/// }
-///
-/// // All of it is taken back at once.
-/// assert_eq!(session.take_back()?, -change);
-///
-/// // A byte too many; a split where the side is 4; a block that is not square.
-/// assert_eq!(session.get(View::Left, block, Candidate::Tree(&[0, 1, 0])), Err(Refusal::Tree));
-/// let small = Block { width: 4, height: 4, ..block };
-/// assert_eq!(session.get(View::Left, small, Candidate::Tree(&[1, 0, 1, 0, 2, 0, 3, 0, 4])), Err(Refusal::Tree));
-/// assert_eq!(session.get(View::Left, Block { width: 4, ..block }, Candidate::Tree(&[0, 1])), Err(Refusal::Side));
-/// # Ok::<(), luphwezane::Refusal>(())
-/// ```
 #[derive(Clone, Copy, Debug, PartialEq, Eq, Hash)]
 pub enum Candidate<'a> {
     /// Width × height depths in row order.
@@ -81,12 +48,6 @@ pub enum Candidate<'a> {
         /// Which positions are in which region.
         regions: Regions<'a>,
     },
-    /// A tree of flat squares, for a square block with a side of 4, 8, 16, 32 or 64.
-    ///
-    /// The bytes are one node, that of the block: 0 and the depth of its whole square, or 1 and the nodes of its four quarters by
-    /// rows, upper left, upper right, lower left, lower right. A node of side 4 is always flat. The bytes are exactly one tree,
-    /// with none to spare; the longest tree of side 64 has 597.
-    Tree(&'a [u8]),
 }
 
 /// How the positions of a block are parted into region 0 and region 1.

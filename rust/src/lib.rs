@@ -4,10 +4,10 @@
 //! texture and depths, the picture combined from both, and the total of its squared errors against a reference.
 //! [`Session::get`] answers how that total would change if a block of depths were replaced; [`Session::set`]
 //! replaces it, and [`Session::take_back`] puts back what the newest SET replaced. What takes the block's place is a
-//! [`Candidate`]: a full block, one value, two regions with one value each, or a tree of flat squares. Samples, front depths,
-//! hole marks and the combined picture change only in the stretch of each row that the block can change; how far one depth can
-//! move the total is known before it is tried (see [`Session::get`]). [`Session::move_seat`] shows everything from another
-//! place, with new settings and a new reference. Samples have ten bits, 0 to [`GREATEST_SAMPLE`].
+//! [`Candidate`]: a full block, one value, or two regions with one value each. Samples, front depths, hole marks and the
+//! combined picture change only in the stretch of each row that the block can change; how far one depth can move the total is
+//! known before it is tried (see [`Session::get`]). [`Session::move_seat`] shows everything from another place, with new
+//! settings and a new reference. Samples have ten bits, 0 to [`GREATEST_SAMPLE`].
 //!
 //! ```
 //! use luphwezane::{Block, Candidate, Pictures, Report, Session, Settings, View};

@@ -21,7 +21,6 @@ fn parts(candidate: Candidate<'_>) -> (Shape, &[u8]) {
         Candidate::Flat(value) => (Shape { kind: 1, value: [value, 0], start: CORNER, end: CORNER }, &[]),
         Candidate::Regions { values, regions: Regions::Line { start, end } } => (Shape { kind: 2, value: values, start, end }, &[]),
         Candidate::Regions { values, regions: Regions::Mask(bits) } => (Shape { kind: 3, value: values, start: CORNER, end: CORNER }, bits),
-        Candidate::Tree(bytes) => (Shape { kind: 4, value: [0; 2], start: CORNER, end: CORNER }, bytes),
     }
 }
 
@@ -114,7 +113,7 @@ pub fn move_seat(
 /// there, the candidate's depth, the depth of the column before and the limit of the next column.
 ///
 /// Samples above 1,023, of the pictures and of the planes, are read as 1,023. View 0 is left, view 1 right. Refuses 1, 2, 3, 4,
-/// 20, 6, 5, then by the candidate's kind 7 (a full block), 14 (a line), 15 (a mask) or 16 and 17 (a tree), then 8.
+/// 20, 6, 5, then by the candidate's kind 7 (a full block), 14 (a line) or 15 (a mask), then 8.
 #[rustfmt::skip]
 #[inline]
 pub fn get(
@@ -140,8 +139,7 @@ pub fn get(
 }
 
 /// SET: writes the candidate into the block, brings the held planes up to date, saves the depths that were there in the
-/// journal as one record, a tree's too, in 6 + width × height words, answers the change, and writes the new total into the
-/// settings.
+/// journal, in 6 + width × height words, answers the change, and writes the new total into the settings.
 ///
 /// Where the calls are passed what [`lent`](crate::lent) asks for, SETs whose blocks share no position of the same view may be made
 /// in any order, one after the other: depths, held planes and total are the same in the end, and the answers add up to the same sum,

@@ -37,10 +37,6 @@ pub enum Refusal {
     Line = 14,
     /// 15: a mask that does not have (width × height + 7) / 8 bytes.
     Mask = 15,
-    /// 16: a tree for a block that is not square with a side of 4, 8, 16, 32 or 64.
-    Side = 16,
-    /// 17: a tree whose bytes are not exactly one tree of the block's side.
-    Tree = 17,
     /// 20: the widest gap outside 4 to 64, or the torn distance above 3.
     Gap = 20,
     /// 21: a texture or reference entry above 1,023.
@@ -49,7 +45,7 @@ pub enum Refusal {
 
 impl Refusal {
     /// Every refusal, in the order of its number.
-    pub const ALL: [Refusal; 17] = [
+    pub const ALL: [Refusal; 15] = [
         Refusal::Size,
         Refusal::Plane,
         Refusal::Table,
@@ -63,8 +59,6 @@ impl Refusal {
         Refusal::Journal,
         Refusal::Line,
         Refusal::Mask,
-        Refusal::Side,
-        Refusal::Tree,
         Refusal::Gap,
         Refusal::Sample,
     ];
@@ -96,8 +90,6 @@ impl fmt::Display for Refusal {
             Refusal::Journal => "the journal has no words or a record that cannot be right",
             Refusal::Line => "the line does not join two border points of the block that have no side in common",
             Refusal::Mask => "the mask does not have (width × height + 7) / 8 bytes",
-            Refusal::Side => "the tree's block is not square with a side of 4, 8, 16, 32 or 64",
-            Refusal::Tree => "the tree's bytes are not exactly one tree of the block's side",
             Refusal::Gap => "the widest gap is outside 4 to 64 or the torn distance above 3",
             Refusal::Sample => "a texture or reference sample is above 1,023",
         };

@@ -184,8 +184,7 @@ impl Session {
     ///
     /// # Errors
     /// Refuses [`Bounds`](Refusal::Bounds), then by the candidate's kind [`Candidate`](Refusal::Candidate) (a full block),
-    /// [`Line`](Refusal::Line), [`Mask`](Refusal::Mask), or [`Side`](Refusal::Side) and then [`Tree`](Refusal::Tree) (a tree), and
-    /// nothing else.
+    /// [`Line`](Refusal::Line) or [`Mask`](Refusal::Mask), and nothing else.
     // Taken into every caller: passing all of it on costs fewer instructions there, and a kind that the caller knows none.
     #[inline(always)]
     pub fn get(&self, view: View, block: Block, candidate: Candidate) -> Result<i64, Refusal> {
@@ -398,7 +397,7 @@ mod tests {
         Session::open(&settings, &pictures, [&depths, &depths]).expect("OPEN accepts it")
     }
 
-    /// A SET that is refused with 5, 7, 14, 15, 16 or 17 leaves the journal's length and its memory, whatever size its block says.
+    /// A SET that is refused with 5, 7, 14 or 15 leaves the journal's length and its memory, whatever size its block says.
     #[test]
     fn refused_sets_make_no_room() {
         let side = 1024;
@@ -422,8 +421,6 @@ mod tests {
                     (block(0, 0, width, height), Candidate::Full(&[]), Refusal::Candidate),
                     (block(0, 0, width, height), flat_line, Refusal::Line),
                     (block(0, 0, width, height), Candidate::mask(&full, [1, 2]), Refusal::Mask),
-                    (block(0, 0, width, height), Candidate::Tree(&full), Refusal::Side),
-                    (block(0, 0, 64, 64), Candidate::Tree(&full), Refusal::Tree),
                 ];
                 for (block, candidate, refusal) in refused {
                     assert_eq!(session.set(View::Right, block, candidate), Err(refusal));

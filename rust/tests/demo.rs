@@ -2,7 +2,6 @@
 
 use std::path::{Path, PathBuf};
 use std::process::{Command, Output};
-use std::sync::OnceLock;
 
 fn demo(arguments: &[&str]) -> Output {
     Command::new(env!("CARGO_BIN_EXE_demo")).args(arguments).output().expect("the program starts")
@@ -25,28 +24,13 @@ fn numbers(output: &Output) -> Vec<String> {
     lines.lines().skip(1).filter(|line| !line.starts_with("pictures in")).map(str::to_string).collect()
 }
 
-/// The folder and the numbers of a run with the program's own scene, which several tests look at.
-fn made() -> (&'static Path, &'static [String]) {
-    static MADE: OnceLock<(PathBuf, Vec<String>)> = OnceLock::new();
-    let (out, numbers) = MADE.get_or_init(|| {
-        let out = folder("made");
-        let numbers = numbers(&demo(&["--out", text(&out)]));
-        (out, numbers)
-    });
-    (out, numbers)
-}
-
-/// The numbers of a line of the search: trials; units set to one value, by a line, by a mask and by a tree; blocks of 16 × 16 set by
-/// a tree, and of how many the units were taken back; the change and the total.
-fn row(line: &str) -> [i64; 9] {
-    let numbers = line.replace(',', "");
-    let numbers: Vec<i64> = numbers.split_whitespace().filter_map(|cell| cell.parse().ok()).collect();
-    *numbers.last_chunk().unwrap_or_else(|| panic!("{line}"))
-}
-
-/// The line of the search that begins so.
-fn row_of(numbers: &[String], name: &str) -> [i64; 9] {
-    row(numbers.iter().find(|line| line.starts_with(name)).unwrap_or_else(|| panic!("no line {name}")))
+/// How many units were set to one value, by a line, by a mask and as quarters, and of how many the quarters were taken back.
+fn chosen(numbers: &[String]) -> [u64; 5] {
+    let passes = numbers.iter().filter(|line| line.contains(", round "));
+    passes.fold([0; 5], |sums, line| {
+        let cells: Vec<&str> = line.split_whitespace().collect();
+        std::array::from_fn(|k| sums[k] + cells[4 + k].parse::<u64>().expect("a number"))
+    })
 }
 
 /// The lines of the seats, without their numbers.
@@ -107,9 +91,11 @@ fn picture(path: &Path, w: usize, h: usize) -> (u16, Vec<u16>) {
 
 #[test]
 fn made_scene_and_the_same_from_files() {
-    let ((made, first), again) = (made(), folder("again"));
+    let (made, again) = (folder("made"), folder("again"));
+    let first = numbers(&demo(&["--out", text(&made)]));
     assert!(first.contains(&"check   sound".to_string()));
     assert!(first.iter().all(|line| !line.contains('\r')), "progress is for terminals");
+    assert!(chosen(&first).iter().all(|&units| units > 0), "the search chooses every kind and backs out: {:?}", chosen(&first));
     let files = ["left", "right", "reference", "depth-left-before", "depth-right-before"];
     let files = files.map(|name| made.join(format!("{name}.pgm")));
     let second = numbers(&demo(&run_again(&files, &again)));
@@ -135,34 +121,19 @@ fn made_scene_and_the_same_from_files() {
         ("depth-right-after", 255),
     ] {
         let read = |folder: &Path| picture(&folder.join(format!("{name}.pgm")), 320, 192);
-        assert_eq!(read(made), read(&again), "{name}");
-        assert_eq!(read(made).0, largest, "{name}");
+        assert_eq!(read(&made), read(&again), "{name}");
+        assert_eq!(read(&made).0, largest, "{name}");
     }
     let (_, samples) = picture(&made.join("left.pgm"), 320, 192);
     assert!((0..4).all(|bits| samples.iter().any(|sample| sample % 4 == bits)), "the scene has ten bits");
 }
 
-/// The search chooses every kind and backs out of units for a tree. Its passes add up, from the total of the opening to the last. The
-/// same search without trees tries less and ends with a greater total.
-#[test]
-fn what_trees_were_best_for() {
-    let (_, numbers) = made();
-    let (all, without) = (row_of(numbers, "all four "), row_of(numbers, "without trees "));
-    let passes: Vec<[i64; 9]> = numbers.iter().filter(|line| line.contains(", round ")).map(|line| row(line)).collect();
-    let sums: [i64; 8] = std::array::from_fn(|k| passes.iter().map(|pass| pass[k]).sum());
-    assert_eq!((passes.len(), &sums[..], passes[3][8]), (4, &all[..8], all[8]));
-    assert!(all[1..7].iter().all(|&units| units > 0), "{all:?}");
-    assert_eq!(without[4..7], [0; 3]);
-    assert!(without[0] < all[0] && without[8] > all[8], "{without:?}, {all:?}");
-    assert_eq!(all[8] - all[7], without[8] - without[7], "both begin with one total");
-}
-
 /// In the middle row every depth is tried in every column, in both views; the nearest one changes at least a tenth of its bound.
 #[test]
 fn one_depth_stays_within_its_bound() {
-    let (_, numbers) = made();
+    let numbers = numbers(&demo(&["--out", text(&folder("bound"))]));
     for view in ["left", "right"] {
-        let [row, within, trials, depth, column, change, bound, length] = nearest(numbers, view);
+        let [row, within, trials, depth, column, change, bound, length] = nearest(&numbers, view);
         assert_eq!((row, within, trials), (96, 320 * 256, 320 * 256));
         assert!((0..256).contains(&depth) && (0..320).contains(&column));
         assert_eq!(bound, 1_046_529 * ((length + 3) / 4));
@@ -173,9 +144,9 @@ fn one_depth_stays_within_its_bound() {
 /// Two neighbouring units of the middle row of units answer something else in each order, with one sum, in both views.
 #[test]
 fn two_units_in_both_orders() {
-    let (_, numbers) = made();
+    let numbers = numbers(&demo(&["--out", text(&folder("order"))]));
     for view in ["left", "right"] {
-        let [row, a, b, one, then_other, again_b, again_a, other, then_one, sum] = order(numbers, view);
+        let [row, a, b, one, then_other, again_b, again_a, other, then_one, sum] = order(&numbers, view);
         assert_eq!((row, b, again_a, again_b), (96, a + 8, a, b));
         assert!(one != then_one && other != then_other, "{view}: the order makes no difference");
         assert_eq!((one + then_other, other + then_one), (sum, sum), "{view}");
@@ -186,8 +157,9 @@ fn two_units_in_both_orders() {
 /// thing goes to the left, as far every time.
 #[test]
 fn the_seat_moves() {
-    let (out, numbers) = made();
-    let (seats, last) = (seats(numbers), numbers.iter().rfind(|line| line.contains(", round ")).expect("it searches"));
+    let out = folder("seats");
+    let numbers = numbers(&demo(&["--out", text(&out)]));
+    let (seats, last) = (seats(&numbers), numbers.iter().rfind(|line| line.contains(", round ")).expect("it searches"));
     assert_eq!(seats.iter().map(|cells| cells[0]).collect::<Vec<_>>(), ["0,", "1", "2,", "3", "4,"]);
     assert_eq!(total(&seats[2]), total(&last.split_whitespace().collect::<Vec<_>>()));
     let picture = |name: &str| picture(&out.join(format!("{name}.pgm")), 320, 192).1;

@@ -34,8 +34,7 @@ impl Call {
     /// A call that is accepted, on a session with few SETs that stand; the journal has room for one more.
     fn accepted(random: &mut Random) -> Call {
         let widest = if random.once_in(200) { 600 } else { random.pick(&[9, 9, 9, 9, 40, 40, 40, 40, 40, 140]) };
-        let highest = if random.once_in(20) { 18 } else { 6 };
-        let (w, h) = (random.between(1, widest), random.between(1, highest));
+        let (w, h) = (random.between(1, widest), random.between(1, 6));
         let turn = random.next();
         let scene = Scene::sized(random, w, h, turn);
         let mut settings = scene.settings;
@@ -208,7 +207,7 @@ impl Call {
 
     /// One thing made wrong, or at least different.
     fn spoil(&mut self, random: &mut Random) {
-        match random.between(0, 27) {
+        match random.between(0, 25) {
             0 => self.settings.w = random.pick(&[0, 4097, self.settings.w.wrapping_add(65536), u32::MAX]),
             1 => self.settings.h = random.pick(&[0, 4097, self.settings.h.wrapping_add(65536), u32::MAX]),
             2 => std::mem::swap(&mut self.settings.w, &mut self.settings.h),
@@ -247,12 +246,6 @@ impl Call {
             20 => self.settings.torn_distance = random.pick(&[0, 3, 4, 255]),
             21 => random::spoil_seat(random, &mut self.settings),
             22..=24 => random::spoil_seat(random, &mut self.to),
-            25 => self.candidate.kind = 4,
-            26 => {
-                let depths = self.planes.shared().depths[0];
-                let bytes = random::refused_tree(random, self.block, if depths.is_empty() { &[0] } else { depths });
-                (self.candidate.kind, self.candidate.bytes) = (4, Guarded::new(&bytes, 0x3c));
-            }
             _ => self.settings.total = random.next() >> random.between(0, 63),
         }
     }
@@ -525,7 +518,7 @@ fn spoilt_calls_reach_every_number() {
     }
     let lists: [(&str, &[u32]); 4] = [
         ("MOVE", &[0, 1, 2, 3, 4, 20, 13, 21]),
-        ("GET", &[0, 1, 2, 3, 4, 20, 6, 5, 7, 14, 15, 16, 17]),
+        ("GET", &[0, 1, 2, 3, 4, 20, 6, 5, 7, 14, 15]),
         ("CHECK", &[0, 1, 2, 3, 4, 20]),
         ("TAKE BACK", &[0, 1, 2, 3, 4, 20, 13, 12]),
     ];

@@ -20,8 +20,6 @@ fn refusals_have_numbers_and_words() {
         (Refusal::Journal, 13, "refused (13): the journal has no words or a record that cannot be right"),
         (Refusal::Line, 14, "refused (14): the line does not join two border points of the block that have no side in common"),
         (Refusal::Mask, 15, "refused (15): the mask does not have (width × height + 7) / 8 bytes"),
-        (Refusal::Side, 16, "refused (16): the tree's block is not square with a side of 4, 8, 16, 32 or 64"),
-        (Refusal::Tree, 17, "refused (17): the tree's bytes are not exactly one tree of the block's side"),
         (Refusal::Gap, 20, "refused (20): the widest gap is outside 4 to 64 or the torn distance above 3"),
         (Refusal::Sample, 21, "refused (21): a texture or reference sample is above 1,023"),
     ];
@@ -32,7 +30,7 @@ fn refusals_have_numbers_and_words() {
         let error: Box<dyn Error + Send + Sync> = refusal.into();
         assert_eq!(error.to_string(), words);
     }
-    for number in [0, 9, 10, 18, 19, 22, 263, 267, 272, 273, 276, 277, u32::MAX] {
+    for number in [0, 9, 10, 16, 19, 22, 263, 267, 276, 277, u32::MAX] {
         assert_eq!(Refusal::from_number(number), None);
     }
 }
@@ -60,11 +58,11 @@ fn session() -> Session {
 }
 
 #[test]
-fn a_session_refuses_5_7_and_14_to_16_and_stays() {
+fn a_session_refuses_5_7_14_and_15_and_stays() {
     let mut session = session();
     let block = |column, row, width, height| Block { column, row, width, height };
     for wrong in [block(8, 0, 2, 1), block(0, 1, 1, 2), block(0, 0, 0, 1), block(0, 0, 1, 0), block(u32::MAX, 0, 1, 1)] {
-        for candidate in [Candidate::Full(&[0, 0]), Candidate::Flat(0), Candidate::mask(&[0], [0; 2]), Candidate::Tree(&[0, 0])] {
+        for candidate in [Candidate::Full(&[0, 0]), Candidate::Flat(0), Candidate::mask(&[0], [0; 2])] {
             assert_eq!(session.get(View::Left, wrong, candidate), Err(Refusal::Bounds));
             assert_eq!(session.set(View::Right, wrong, candidate), Err(Refusal::Bounds));
         }
@@ -76,8 +74,6 @@ fn a_session_refuses_5_7_and_14_to_16_and_stays() {
     assert_eq!(session.set(View::Left, block(0, 0, 2, 2), line), Err(Refusal::Line));
     assert_eq!(session.get(View::Left, block(0, 0, 9, 1), Candidate::mask(&[0], [1, 2])), Err(Refusal::Mask));
     assert_eq!(session.set(View::Left, block(0, 0, 9, 1), Candidate::mask(&[0; 3], [1, 2])), Err(Refusal::Mask));
-    assert_eq!(session.get(View::Left, block(0, 0, 2, 2), Candidate::Tree(&[0, 1])), Err(Refusal::Side));
-    assert_eq!(session.set(View::Left, block(0, 0, 8, 2), Candidate::Tree(&[0, 1])), Err(Refusal::Side));
     assert_eq!((session.total(), session.check()), (0, Report::Sound));
     assert_eq!(session.take_back(), Err(Refusal::NothingToTakeBack), "a refused SET does not stand");
 }
@@ -180,8 +176,6 @@ fn a_session_makes_room() {
         (block(0, 0, 9, 2), Candidate::line(corner, level, [1, 2]), Refusal::Line),
         (block(8, 1, 1, 1), Candidate::mask(&[], [1, 2]), Refusal::Mask),
         (block(0, 0, 9, 2), Candidate::mask(&[1; 4], [1, 2]), Refusal::Mask),
-        (block(8, 1, 1, 1), Candidate::Tree(&[0, 1]), Refusal::Side),
-        (block(0, 0, 9, 2), Candidate::Tree(&[]), Refusal::Side),
     ];
     for (k, width) in [1, 9, 2, 9, 9, 3].into_iter().enumerate() {
         session.set(View::Left, block(0, 0, width, 2), Candidate::Flat(k as u8)).expect("SET accepts it");
@@ -203,12 +197,10 @@ fn a_session_makes_room() {
 fn candidates_are_values() {
     const LINE: Candidate = Candidate::line(Point { column: 0, row: 3 }, Point { column: 7, row: 0 }, [10, 20]);
     const MASK: Candidate = Candidate::mask(&[0x0f], [30, 40]);
-    const TREE: Candidate = Candidate::Tree(&[0, 30]);
     let Candidate::Regions { values, regions } = LINE else { panic!("a line has two regions") };
     assert_eq!((values, regions), ([10, 20], Regions::Line { start: Point { column: 0, row: 3 }, end: Point { column: 7, row: 0 } }));
     assert_eq!(MASK, Candidate::Regions { values: [30, 40], regions: Regions::Mask(&[0x0f]) });
     assert_ne!(MASK, Candidate::mask(&[0x0f], [40, 30]));
-    assert_ne!(TREE, Candidate::Full(&[0, 30]));
     let mut session = session();
     let block = Block { column: 0, row: 0, width: 8, height: 1 };
     for candidate in [MASK, Candidate::Flat(7), Candidate::Full(&[7; 8])] {

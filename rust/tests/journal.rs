@@ -519,7 +519,7 @@ fn a_hundred_sets_taken_back() {
             assert_eq!(session.set(view, at, tried.candidate()), Ok(change));
             before.push((state, change));
         }
-        assert_eq!(kinds, (0..2).flat_map(|view| (0..5).map(move |kind| (view, kind))).collect());
+        assert_eq!(kinds, (0..2).flat_map(|view| (0..4).map(move |kind| (view, kind))).collect());
         for (state, change) in before.iter().rev() {
             assert_eq!(held.take_back(&mut journal), Ok(-change));
             assert_eq!(session.take_back(), Ok(-change));
@@ -583,7 +583,6 @@ impl Call {
             (7, _) => self.candidate = random::full(&[9; 3]),
             (14, _) => self.candidate.kind = 2,
             (15, _) => (self.candidate.kind, self.candidate.bytes) = (3, Guarded::new(&[1, 2], 0)),
-            (16, _) => self.candidate.kind = 4,
             (8, _) => self.settings.total = u64::MAX,
             (11, _) => self.journal.truncate(end + 6 + 3),
             (12, _) => self.journal[0] = 0,
@@ -665,8 +664,8 @@ fn the_order_of_refusals() {
     }
 
     // A candidate has one kind.
-    let set = [&COMMON[..], &[(6, ""), (5, ""), (7, ""), (14, ""), (15, ""), (16, ""), (8, "")], &JOURNAL, &[(11, "")]].concat();
-    let kinds = [7, 14, 15, 16];
+    let set = [&COMMON[..], &[(6, ""), (5, ""), (7, ""), (14, ""), (15, ""), (8, "")], &JOURNAL, &[(11, "")]].concat();
+    let kinds = [7, 14, 15];
     assert_order(&set, Call::set, |first, second| kinds.contains(&first.0) && kinds.contains(&second.0));
 
     // A journal whose word 0 is 0 has no chain to be wrong.

@@ -442,7 +442,6 @@ impl Run {
                 let reach = Reach::of(&row, c, new);
                 known.get(&self.session, view, block, tried.candidate(), reach);
                 let mut had = |what: &'static str, is: bool| known.note_besides(view as usize, what, is);
-                // A block of one column and one row has no tree.
                 had(["a full block", "one value", "a line", "a mask"][tried.kind as usize], true);
                 had(self.last, true);
                 had("a limit below the next column's place", c < w - 1 && row.limit(c + 1) < row.place(c + 1));

@@ -267,7 +267,7 @@ impl Run {
         }
     }
 
-    /// A call of a run that meets 5, 6, 7, 14, 15, 16 or 17: it is refused and all stays. Kinds that are unknown can be passed through
+    /// A call of a run that meets 5, 6, 7, 14 or 15: it is refused and all stays. Kinds that are unknown can be passed through
     /// the library's symbols only.
     fn refused(&mut self, view: u32, block: Block, tried: &Tried) {
         let (pictures, planes) = (self.scene.pictures(), self.planes.shared());
@@ -425,31 +425,14 @@ fn refused_open(random: &mut Random, scene: &Scene) {
     assert!((settings, planes, journal) == before, "a refused OPEN wrote");
 }
 
-/// What is wrong with bytes that are no tree of a side. A beginning of a tree is one that some flat nodes of depth 0 complete.
-fn fault(side: u32, bytes: &[u8]) -> &'static str {
-    let is_tree = |bytes: &[u8]| paper::tree_depths(side, bytes).is_some();
-    let begins = |&n: &usize| (0..600).any(|more| is_tree(&[&bytes[..n], &vec![0; more]].concat()));
-    let longest = (1..=bytes.len()).collect::<Vec<_>>().partition_point(begins);
-    match bytes.get(longest) {
-        None if bytes.is_empty() => "empty",
-        None => "cut short",
-        Some(_) if is_tree(&bytes[..longest]) => "bytes to spare",
-        Some(1) => "a split at side 4",
-        Some(_) => "another tag",
-    }
-}
-
-/// What random candidates are: kind and number, of lines how many ends are corners, which ends of a refused one are inside
-/// the block or outside it, and whether the block has one column or row, and of trees the side and what is wrong.
+/// What random candidates are: kind and number, and of lines how many ends are corners, which ends of a refused one are inside
+/// the block or outside it, and whether the block has one column or row.
 #[test]
 fn random_candidates_are_of_every_kind() {
     let (random, mut reached) = (&mut Random::new(1, 0), BTreeSet::new());
-    for turn in 0..20_000 {
-        let (least, most) = if turn % 100 == 0 { (64, 66) } else { (1, 9) };
-        let (w, h) = (random.between(least, most), random.between(least, most));
-        let (depths, any) = (random.bytes(w * h), random::block(random, w, h));
-        let square = random::square(random, w, h, &paper::TREE_SIDES);
-        let block = square.filter(|_| turn % 4 == 0).unwrap_or(any);
+    for _ in 0..20_000 {
+        let (w, h) = (random.between(1, 9), random.between(1, 9));
+        let (depths, block) = (random.bytes(w * h), random::block(random, w, h));
         let taken = random::candidate(random, w, &depths, block);
         assert_eq!(paper::candidate_number(block, taken.candidate()), 0, "{taken:?} in {block:?}");
         let refused = random::refused_candidate(random, w, &depths, block);
@@ -463,10 +446,7 @@ fn random_candidates_are_of_every_kind() {
                 2 if block.width == 1 || block.height == 1 => "line in one column or row".to_string(),
                 2 if within == [true, true] && sides.iter().all(|&count| count > 0) => "line on one side".to_string(),
                 2 => format!("line, within {within:?}"),
-                4 if number == 16 => format!("{}square", if block.width == block.height { "" } else { "not " }),
-                4 if number == 17 => fault(block.width, tried.bytes.entries()).to_string(),
-                4 => format!("tree of side {}", block.width),
-                kind => format!("kind {}", kind.min(5)),
+                kind => format!("kind {}", kind.min(4)),
             };
             reached.insert((number, what));
         }
@@ -479,12 +459,7 @@ fn random_candidates_are_of_every_kind() {
         (0, "line, 1 corners"),
         (0, "line, 2 corners"),
         (7, "kind 0"),
-        (0, "tree of side 4"),
-        (0, "tree of side 8"),
-        (0, "tree of side 16"),
-        (0, "tree of side 32"),
-        (0, "tree of side 64"),
-        (7, "kind 5"),
+        (7, "kind 4"),
         (14, "line in one column or row"),
         (14, "line on one side"),
         (14, "line, within [false, false]"),
@@ -492,13 +467,6 @@ fn random_candidates_are_of_every_kind() {
         (14, "line, within [true, false]"),
         (14, "line, within [true, true]"),
         (15, "kind 3"),
-        (16, "not square"),
-        (16, "square"),
-        (17, "a split at side 4"),
-        (17, "another tag"),
-        (17, "bytes to spare"),
-        (17, "cut short"),
-        (17, "empty"),
     ];
     assert_eq!(reached, expected.map(|(number, what)| (number, what.to_string())).into());
 }

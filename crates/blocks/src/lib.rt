@@ -1,5 +1,5 @@
 // A candidate of any kind written into a block.
-ghost use Rattle.std.specs.Prelude.{◌≡◌, true, ◌≤◌, ◌<◌};
+ghost use Rattle.std.specs.Prelude.{◌≡◌, true, ◌≤◌, ◌<◌, length};
 ghost use Rattle.model.specs.Planes.{view};
 ghost use Rattle.model.specs.Candidates.{filled};
 ghost use Rattle.model.specs.Refusals.{table_ok, candidate_then};
@@ -38,7 +38,7 @@ pub fn set_block(
     requires table_value { (table_ok table.now ≡ true) × ((share ≤ 64) × ((w ≤ 4096) × (h ≤ 4096))) }
     requires sized { Sized w h texture.now depths.old (view samples.old fronts.old limits.old marks.old) }
     requires other_sized { OtherSized w h samples2.now fronts2.now marks2.now combined.old }
-    requires block_in { (BlockIn w h (block_of column row width height) (filled (block_of column row width height) candidate bytes.now)) × (candidate_then (block_of column row width height) candidate bytes.now 0 ≡ 0) }
+    requires block_in { (BlockIn w h (block_of column row width height) (filled (block_of column row width height) candidate bytes.now)) × (candidate_then (block_of column row width height) candidate (length bytes.now) 0 ≡ 0) }
     ensures { BlockSet tear right table.now share tolerance w h (block_of column row width height) texture.now (filled (block_of column row width height) candidate bytes.now) samples2.now fronts2.now marks2.now
         depths.old depths.new
         (view samples.old fronts.old limits.old marks.old)

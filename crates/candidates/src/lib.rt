@@ -1,7 +1,7 @@
-// 7, 14 and 15: what a candidate asks of its block and of the number of bytes lent with it. A tree asks for what the bytes are (crate trees).
+// 7, 14 and 15: what a candidate of each kind asks of its block and of the bytes lent with it.
 ghost use Rattle.std.specs.Prelude.{◌≡◌, ◌&&◌, ◌||◌, ◌+◌, ◌<◌, eqb};
 ghost use Rattle.model.specs.Candidates.{on_border, side_shared, line_ok};
-ghost use Rattle.model.specs.Refusals.{number_of, count_then};
+ghost use Rattle.model.specs.Refusals.{number_of, candidate_then};
 
 use model::{Block, Candidate, Point, Refusal, Split};
 
@@ -10,10 +10,10 @@ fn at_end(i: u32, n: u32) -> bool
     requires { i < n }
     ensures { result ≡ (eqb i 0 || eqb (i + 1) n) }
 {
-    if i == 0 {
+    if i < 1 {
         return true;
     }
-    i == n - 1
+    n - i == 1
 }
 
 // Numbers i and j of a side of n are both the first or both the last.
@@ -67,9 +67,9 @@ fn line_ok(block: Block, start: Point, end: Point) -> bool
     !side_shared(block, start, end)
 }
 
-// 7, 14 or 15 by the candidate's kind, none for one value or a tree; n is the number of bytes lent with it.
+// 7, 14 or 15 by the candidate's kind, none for one value; n is the number of bytes lent with it.
 pub fn candidate_refusal(block: Block, candidate: Candidate, n: usize) -> Refusal
-    ensures { number_of result ≡ count_then block candidate n 0 }
+    ensures { number_of result ≡ candidate_then block candidate n 0 }
 {
     let area = (block.width as usize) * (block.height as usize);
     match candidate {
@@ -95,7 +95,6 @@ pub fn candidate_refusal(block: Block, candidate: Candidate, n: usize) -> Refusa
                 }
             }
         },
-        Candidate::Tree => {}
     }
     Refusal::None
 }

@@ -1,9 +1,9 @@
--- The definitions that the small rows do not reach compute too: packed marks, hole counts, every filter, near edges, filled blocks, trees and lines, and, on
+-- The definitions that the small rows do not reach compute too: packed marks, hole counts, every filter, near edges, filled blocks and lines, and, on
 -- the session of document 01 (4 × 1, depths 0), spans, refusals, also those of a journal and of MOVE, and CHECK's report.
 use Prim.Native.Nat.{ℕ, ◌-◌, ◌*◌}
 use mathlib.Core.Path.{◌≡◌, refl}
 use mathlib.Core.Bool.{Bool, true, false, cond}
-use mathlib.Core.List.{List, [], ◌∷◌, ◌++◌}
+use mathlib.Core.List.{List, [], ◌∷◌}
 use lib.Dec.{eqb}
 use lib.ListN.{length}
 use lib.IntN.{ℤ, pos}
@@ -13,7 +13,7 @@ use Rattle.model.specs.declared.Block.{Block}
 use Rattle.model.specs.declared.Point.{Point}
 use Rattle.model.specs.declared.Split.TheVariants.{Line, Mask}
 use Rattle.model.specs.declared.Candidate.{Candidate}
-use Rattle.model.specs.declared.Candidate.TheVariants.{Full, Flat, Regions, Tree}
+use Rattle.model.specs.declared.Candidate.TheVariants.{Full, Flat, Regions}
 use Rattle.model.specs.declared.Report.{Report}
 use Rattle.model.specs.declared.Report.TheVariants.{Sound, Difference, Total}
 use Rattle.model.specs.Lists.{list_of, list_from, rows, row_of, sum_to}
@@ -26,10 +26,8 @@ use Rattle.model.specs.Fresh.{fresh_row, strip_of, fresh_view, fresh_sample, fre
 use Rattle.model.specs.Span.{least_edited, span_low, span_high, in_span, first_column, view_place, span_has, limit_moves}
 use Rattle.model.specs.Reports.{same_mark, same_view, same_at, first_bad, first_difference, report_of}
 use Rattle.model.specs.Candidates.{cross, in_region1, filled, on_border, side_shared, line_ok}
-use Rattle.model.specs.Trees as trees
-use Rattle.model.specs.Trees.{side_of, depth_in, depths_of, and_then, flat_node, decode, side_taken, square_ok, level_of, whole, is_tree, filled_by, tree_filled}
 use Rattle.model.specs.Journals.{record_depths, next_index}
-use Rattle.model.specs.Refusals.{side_ok, size_ok, pictures_sized, depths_sized, view_sized, held_sized, planes_sized, up_to, tables_ok, tear_ok, block_ok, count_then, tree_then, candidate_then, in_range, record_ok, chain_ok, journal_ok, room_ok, pictures_ok, common_then, own_then, saving_then, taking_then, open_number, set_number, take_back_number, strip_sized, render_number}
+use Rattle.model.specs.Refusals.{side_ok, size_ok, pictures_sized, depths_sized, view_sized, held_sized, planes_sized, up_to, tables_ok, tear_ok, block_ok, candidate_then, in_range, record_ok, chain_ok, journal_ok, room_ok, pictures_ok, common_then, own_then, saving_then, taking_then, open_number, set_number, take_back_number, strip_sized, render_number}
 use Rattle.run.specs.Run.{move_number}
 use Rattle.cases.specs.Cases.{tear, usual, identity, four, settings, opening, images, junk, saves}
 
@@ -226,68 +224,6 @@ flat_and_full : (filled (block 0 0 3 2) (Flat 5) [] ≡ 5 ∷ 5 ∷ 5 ∷ 5 ∷ 
 unfolding filled list_from
 flat_and_full = (refl, refl)
 
--- ---- trees: quarters come by rows, and a quarter may split again; side 4 never does, and bytes are exactly one tree
-
--- n times a depth, before some more
-abbrev times : ℕ → ℕ → List ℕ → List ℕ
-times n depth rest = list_of (λ i. depth) n ++ rest
-
--- four rows of two quarters
-abbrev band : ℕ → ℕ → List ℕ → List ℕ
-band left right rest =
-    times 4 left (times 4 right (times 4 left (times 4 right (times 4 left (times 4 right (times 4 left (times 4 right rest)))))))
-
-abbrev leaves : List ℕ
-leaves = 1 ∷ 0 ∷ 5 ∷ 0 ∷ 6 ∷ 0 ∷ 7 ∷ 0 ∷ 8 ∷ []
-
--- the first row of every four of a square of 16, whose third quarter splits again
-abbrev nested : List ℕ
-nested = 1 ∷ 0 ∷ 1 ∷ 0 ∷ 2 ∷ leaves ++ (0 ∷ 4 ∷ [])
-
-abbrev nested_row : ℕ → List ℕ
-nested_row i = row_of (filled (block 3 1 16 16) Tree nested) 16 i
-
-tree_blocks :
-    (filled (block 3 1 4 4) Tree (0 ∷ 5 ∷ []) ≡ times 16 5 [])
-    × (filled (block 3 1 8 8) Tree (0 ∷ 5 ∷ []) ≡ times 64 5 [])
-    × (filled (block 3 1 8 8) Tree leaves ≡ band 5 6 (band 7 8 []))
-    × (nested_row 0 ≡ times 8 1 (times 8 2 []))
-    × (nested_row 7 ≡ times 8 1 (times 8 2 []))
-    × (nested_row 8 ≡ times 4 5 (times 4 6 (times 8 4 [])))
-    × (nested_row 12 ≡ times 4 7 (times 4 8 (times 8 4 [])))
-unfolding filled tree_filled filled_by depths_of depth_in level_of side_of decode trees.four and_then flat_node list_from row_of
-tree_blocks = (refl, refl, refl, refl, refl, refl, refl)
-
-tree_bytes :
-    (is_tree 4 (0 ∷ 5 ∷ []) ≡ true)
-    × (is_tree 4 [] ≡ false)
-    × (is_tree 4 (0 ∷ []) ≡ false)
-    × (is_tree 4 (0 ∷ 5 ∷ 0 ∷ []) ≡ false)
-    × (is_tree 4 (2 ∷ 5 ∷ []) ≡ false)
-    × (is_tree 4 leaves ≡ false)
-    × (is_tree 8 leaves ≡ true)
-    × (is_tree 8 (0 ∷ 5 ∷ []) ≡ true)
-    × (is_tree 8 (1 ∷ 0 ∷ 5 ∷ 0 ∷ 6 ∷ 0 ∷ 7 ∷ 0 ∷ []) ≡ false)
-    × (is_tree 8 (leaves ++ (0 ∷ [])) ≡ false)
-    × (is_tree 8 (2 ∷ 0 ∷ 5 ∷ 0 ∷ 6 ∷ 0 ∷ 7 ∷ 0 ∷ 8 ∷ []) ≡ false)
-    × (is_tree 8 (1 ∷ 0 ∷ 5 ∷ 0 ∷ 6 ∷ 0 ∷ 7 ∷ leaves) ≡ false)
-    × (is_tree 8 nested ≡ false)
-    × (is_tree 16 nested ≡ true)
-    × (is_tree 64 nested ≡ true)
-unfolding is_tree whole level_of decode trees.four and_then flat_node
-tree_bytes = (refl, refl, refl, refl, refl, refl, refl, refl, refl, refl, refl, refl, refl, refl, refl)
-
--- sides 4, 8, 16, 32 and 64, and squares alone
-tree_sides :
-    (list_of (λ i. side_taken (2 * i)) 10 ≡ false ∷ false ∷ true ∷ false ∷ true ∷ false ∷ false ∷ false ∷ true ∷ false ∷ [])
-    × (list_of (λ i. side_taken (16 * i)) 10 ≡ false ∷ true ∷ true ∷ false ∷ true ∷ false ∷ false ∷ false ∷ false ∷ false ∷ [])
-    × (square_ok (block 3 1 8 8) ≡ true)
-    × (square_ok (block 3 1 8 4) ≡ false)
-    × (square_ok (block 3 1 4 8) ≡ false)
-    × (square_ok (block 3 1 12 12) ≡ false)
-unfolding side_taken square_ok list_from
-tree_sides = (refl, refl, refl, refl, refl, refl)
-
 -- ---- lines: opposite corners are taken, sides that meet, and opposite sides; corners of one side, a point inside the border, and points past the last column or row are not
 
 abbrev taken : ℕ → ℕ → Point → Point → Bool
@@ -313,40 +249,31 @@ lines :
 unfolding line_ok on_border side_shared
 lines = (refl, refl, refl, refl, refl, refl, refl, refl, refl, refl, refl, refl, refl, refl, refl, refl)
 
--- ---- refusals: pairs of conditions show the order, 6, then 5, then 7, 14, 15, or 16 and 17 for a tree; one value has none of its own, and a line's bytes are
--- not counted
+-- ---- refusals: pairs of conditions show the order, 6, then 5, then 7, 14 or 15; one value has none of its own, and a line's bytes are not counted
 
 abbrev across : Candidate
 across = by (point 0 0) (point 1 1)
 
 own_order :
-    (own_then (settings 1) 2 (block 4 0 1 1) Full (junk 1) 0 ≡ 6)
-    × (own_then (settings 1) 1 (block 4 0 1 1) Full (junk 9) 0 ≡ 5)
-    × (own_then (settings 1) 1 (block 2 0 0 1) Full [] 0 ≡ 5)
-    × (own_then (settings 1) 1 (block 2 0 2 1) Full (junk 1) 0 ≡ 7)
-    × (own_then (settings 1) 1 (block 2 0 2 1) Full (junk 2) 0 ≡ 0)
-    × (own_then (settings 1) 2 (block 2 0 2 1) across [] 0 ≡ 6)
-    × (own_then (settings 1) 1 (block 2 0 3 1) across [] 0 ≡ 5)
-    × (own_then (settings 1) 1 (block 2 0 2 1) across (junk 2) 0 ≡ 14)
-    × (own_then (settings 2) 1 (block 2 0 2 2) across (junk 9) 0 ≡ 0)
-    × (own_then (settings 1) 2 (block 0 0 4 1) (Regions 7 9 Mask) (junk 2) 0 ≡ 6)
-    × (own_then (settings 1) 1 (block 0 0 5 1) (Regions 7 9 Mask) (junk 2) 0 ≡ 5)
-    × (own_then (settings 1) 1 (block 0 0 4 1) (Regions 7 9 Mask) (junk 4) 0 ≡ 15)
-    × (own_then (settings 2) 1 (block 0 0 4 2) (Regions 7 9 Mask) (junk 2) 0 ≡ 15)
-    × (own_then (settings 2) 1 (block 0 0 4 2) (Regions 7 9 Mask) (junk 1) 0 ≡ 0)
-    × (own_then (settings 1) 2 (block 4 0 1 1) (Flat 5) (junk 9) 0 ≡ 6)
-    × (own_then (settings 1) 1 (block 4 0 1 1) (Flat 5) (junk 9) 0 ≡ 5)
-    × (own_then (settings 1) 1 (block 2 0 2 1) (Flat 5) (junk 9) 0 ≡ 0)
-    × (own_then (settings 8) 2 (block 0 0 5 3) Tree [] 0 ≡ 6)
-    × (own_then (settings 8) 1 (block 0 0 5 3) Tree [] 0 ≡ 5)
-    × (own_then (settings 8) 1 (block 0 0 4 5) Tree [] 0 ≡ 16)
-    × (own_then (settings 8) 1 (block 0 0 2 2) Tree (0 ∷ 5 ∷ []) 0 ≡ 16)
-    × (own_then (settings 8) 1 (block 0 4 4 4) Tree (junk 16) 0 ≡ 17)
-    × (own_then (settings 8) 1 (block 0 4 4 4) Tree (0 ∷ 5 ∷ []) 0 ≡ 0)
-    × (own_then (settings 8) 1 (block 0 4 4 4) Full (0 ∷ 5 ∷ []) 0 ≡ 7)
-    × (own_then (settings 8) 1 (block 0 0 3 4) Full (junk 12) 0 ≡ 0)
-unfolding own_then candidate_then count_then tree_then line_ok on_border side_shared square_ok side_taken is_tree whole level_of decode flat_node block_ok settings list_from
-own_order = (refl, refl, refl, refl, refl, refl, refl, refl, refl, refl, refl, refl, refl, refl, refl, refl, refl, refl, refl, refl, refl, refl, refl, refl, refl)
+    (own_then (settings 1) 2 (block 4 0 1 1) Full 1 0 ≡ 6)
+    × (own_then (settings 1) 1 (block 4 0 1 1) Full 9 0 ≡ 5)
+    × (own_then (settings 1) 1 (block 2 0 0 1) Full 0 0 ≡ 5)
+    × (own_then (settings 1) 1 (block 2 0 2 1) Full 1 0 ≡ 7)
+    × (own_then (settings 1) 1 (block 2 0 2 1) Full 2 0 ≡ 0)
+    × (own_then (settings 1) 2 (block 2 0 2 1) across 0 0 ≡ 6)
+    × (own_then (settings 1) 1 (block 2 0 3 1) across 0 0 ≡ 5)
+    × (own_then (settings 1) 1 (block 2 0 2 1) across 2 0 ≡ 14)
+    × (own_then (settings 2) 1 (block 2 0 2 2) across 9 0 ≡ 0)
+    × (own_then (settings 1) 2 (block 0 0 4 1) (Regions 7 9 Mask) 2 0 ≡ 6)
+    × (own_then (settings 1) 1 (block 0 0 5 1) (Regions 7 9 Mask) 2 0 ≡ 5)
+    × (own_then (settings 1) 1 (block 0 0 4 1) (Regions 7 9 Mask) 4 0 ≡ 15)
+    × (own_then (settings 2) 1 (block 0 0 4 2) (Regions 7 9 Mask) 2 0 ≡ 15)
+    × (own_then (settings 2) 1 (block 0 0 4 2) (Regions 7 9 Mask) 1 0 ≡ 0)
+    × (own_then (settings 1) 2 (block 4 0 1 1) (Flat 5) 9 0 ≡ 6)
+    × (own_then (settings 1) 1 (block 4 0 1 1) (Flat 5) 9 0 ≡ 5)
+    × (own_then (settings 1) 1 (block 2 0 2 1) (Flat 5) 9 0 ≡ 0)
+unfolding own_then candidate_then line_ok on_border side_shared block_ok settings
+own_order = (refl, refl, refl, refl, refl, refl, refl, refl, refl, refl, refl, refl, refl, refl, refl, refl, refl)
 
 -- ---- CHECK
 
@@ -372,7 +299,7 @@ abbrev lent : Held
 lent = held drawn drawn four
 
 abbrev setting : List ℕ → ℤ → ℕ
-setting j change = set_number (settings 1) (images 1) (opening 1) lent j 0 (block 2 0 1 1) Full (9 ∷ []) change
+setting j change = set_number (settings 1) (images 1) (opening 1) lent j 0 (block 2 0 1 1) Full 1 change
 
 abbrev taking : List ℕ → ℤ → ℕ
 taking j change = take_back_number (settings 1) (images 1) (opening 1) lent j change
@@ -399,7 +326,7 @@ journal_order :
     × (starting 64 usual 1024 [] ≡ 13)
     × (starting 64 usual 1024 (9 ∷ []) ≡ 21)
     × (starting 64 usual 1023 (9 ∷ []) ≡ 0)
-unfolding common_then size_ok side_ok planes_sized pictures_sized depths_sized view_sized held_sized tables_ok tear_ok up_to pictures_ok own_then block_ok candidate_then count_then tree_then in_range saving_then taking_then journal_ok chain_ok record_ok record_depths room_ok next_index list_from rows settings opening images four identity
+unfolding common_then size_ok side_ok planes_sized pictures_sized depths_sized view_sized held_sized tables_ok tear_ok up_to pictures_ok own_then block_ok candidate_then in_range saving_then taking_then journal_ok chain_ok record_ok record_depths room_ok next_index list_from rows settings opening images four identity
 journal_order = (refl, refl, refl, refl, refl, refl, refl, refl, refl, refl, refl, refl, refl, refl, refl)
 
 -- ---- card 11: the widest gap 4 to 64, the distance 0 to 3; 20 right after 4, in RENDER after 3

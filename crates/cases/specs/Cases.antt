@@ -9,7 +9,7 @@ use Rattle.model.specs.declared.Block.{Block}
 use Rattle.model.specs.declared.Split.{Split}
 use Rattle.model.specs.declared.Split.TheVariants.{Line, Mask}
 use Rattle.model.specs.declared.Candidate.{Candidate}
-use Rattle.model.specs.declared.Candidate.TheVariants.{Full, Flat, Regions, Tree}
+use Rattle.model.specs.declared.Candidate.TheVariants.{Full, Flat, Regions}
 use Rattle.model.specs.Lists.{list_of, rows}
 use Rattle.model.specs.Row.{line, neg, pixel}
 use Rattle.model.specs.Views.{view_row}
@@ -132,10 +132,6 @@ whole = record { column = 0; row = 0; width = 4; height = 1 }
 abbrev square : Block
 square = record { column = 2; row = 0; width = 2; height = 2 }
 
--- all of four rows
-abbrev tile : Block
-tile = record { column = 0; row = 0; width = 4; height = 4 }
-
 -- the line between the corners (0, 0) and (1, 1)
 abbrev falling : Split
 falling = Line (record { column = 0; row = 0 }) (record { column = 1; row = 1 })
@@ -171,7 +167,6 @@ cases =
     ∷ row "card 7" false four (0 ∷ 0 ∷ 7 ∷ 0 ∷ []) (30 ∷ 40 ∷ 40 ∷ 40 ∷ []) (0 ∷ 1 ∷ 1 ∷ 0 ∷ [])
     ∷ row "card 7, right view" true four (0 ∷ 7 ∷ 0 ∷ 0 ∷ []) (10 ∷ 10 ∷ 10 ∷ 20 ∷ []) (0 ∷ 1 ∷ 1 ∷ 0 ∷ [])
     ∷ session "card 7, an edge two columns right of the block" 1 (SET 3 11 (pos 900) ∷ SET 1 3 (neg 900) ∷ GET 1 0 (pos 900) ∷ []) 0
-    ∷ session "card 8, a tree of one leaf" 4 (tried tile Tree (0 ∷ 2 ∷ []) (pos 308) ∷ []) 0
     ∷ journaled "card 3" (junk 16)
     (SETS 4 0 (pos 136) 136 (1 ∷ saves 0 0 (junk 8))
     ∷ SETS 5 0 (neg 36) 100 (8 ∷ saves 0 0 (saves 1 4 (junk 1)))

@@ -132,14 +132,14 @@ pub fn set_rows(
     requires table_value { (table_ok table.now ≡ true) × ((share ≤ 64) × ((w ≤ 4096) × (h ≤ 4096))) }
     requires sized { Sized w h texture.now depths.old (view samples.old fronts.old limits.old marks.old) }
     requires other_sized { OtherSized w h samples2.now fronts2.now marks2.now combined.old }
-    requires block_in { (BlockIn w h (block_of column row width height) (filled (block_of column row width height) candidate bytes.now)) × ((candidate_then (block_of column row width height) candidate bytes.now 0 ≡ 0) × (length room.old ≡ room_of width candidate 1)) }
+    requires block_in { (BlockIn w h (block_of column row width height) (filled (block_of column row width height) candidate bytes.now)) × ((candidate_then (block_of column row width height) candidate (length bytes.now) 0 ≡ 0) × (length room.old ≡ room_of candidate width)) }
     ensures { BlockSet tear right table.now share tolerance w h (block_of column row width height) texture.now (filled (block_of column row width height) candidate bytes.now) samples2.now fronts2.now marks2.now
         depths.old depths.new
         (view samples.old fronts.old limits.old marks.old)
         (view samples.new fronts.new limits.new marks.new)
         combined.old combined.new }
 {
-    fill::start(candidate, bytes, width, room);
+    fill::start(candidate, room);
     let mut j = 0;
     while j < height {
         fill::fill_rows(candidate, bytes, width, j, 1, room);

@@ -57,13 +57,13 @@ passed_by s p d h b c f g e =
     record { common = f; block = g; table = view_table s f.tables; sized = view_sized_lem s p d h f; fits = omega arith }
 
 -- GET and SET, with no early refusal
-pub passed : (s : Settings) (p : Pictures) (d : Depths) (h : Held) (v : ℕ) (b : Block) (c : Candidate) (x : List ℕ) → early_number s p d h v b c x ≡ 0 → Passed s p d h b (filled b c x)
+pub passed : (s : Settings) (p : Pictures) (d : Depths) (h : Held) (v : ℕ) (b : Block) (c : Candidate) (x : List ℕ) → early_number s p d h v b c (length x) ≡ 0 → Passed s p d h b (filled b c x)
 passed s p d h v b c x e =
-    let g = own_facts s v b c x (early_own s p d h v b c x e) in
-    passed_by s p d h b (filled b c x) (common_facts s p d h (early_common s p d h v b c x e)) g.block (candidate_filled b c x g.candidate)
+    let g = own_facts s v b c (length x) (early_own s p d h v b c (length x) e) in
+    passed_by s p d h b (filled b c x) (common_facts s p d h (early_common s p d h v b c (length x) e)) g.block (candidate_filled b c x g.candidate)
 
-pub candidate_taken : (s : Settings) (p : Pictures) (d : Depths) (h : Held) (v : ℕ) (b : Block) (c : Candidate) (x : List ℕ) → early_number s p d h v b c x ≡ 0 → candidate_then b c x 0 ≡ 0
-candidate_taken s p d h v b c x e = (own_facts s v b c x (early_own s p d h v b c x e)).candidate
+pub candidate_taken : (s : Settings) (p : Pictures) (d : Depths) (h : Held) (v : ℕ) (b : Block) (c : Candidate) (x : List ℕ) → early_number s p d h v b c (length x) ≡ 0 → candidate_then b c (length x) 0 ≡ 0
+candidate_taken s p d h v b c x e = (own_facts s v b c (length x) (early_own s p d h v b c (length x) e)).candidate
 
 module _ (s : Settings) (p : Pictures) (d : Depths) (h : Held) (v : ℕ) (b : Block) (c : List ℕ) where
   -- what the two sums of the trial of a view tell
@@ -103,13 +103,13 @@ module _ (s : Settings) (p : Pictures) (d : Depths) (h : Held) (v : ℕ) (b : Bl
 -- ---- GET
 
 module _ (s : Settings) (p : Pictures) (d : Depths) (h : Held) (v : ℕ) (b : Block) (c : Candidate) (x : List ℕ) (r : Decision) where
-  pub decided_early : number_of r.refusal ≡ early_number s p d h v b c x → (number_of r.refusal ≡ 0 → ⊥) → r.change ≡ pos 0 → r.total ≡ s.total → Decided s p d h v b c x r
+  pub decided_early : number_of r.refusal ≡ early_number s p d h v b c (length x) → (number_of r.refusal ≡ 0 → ⊥) → r.change ≡ pos 0 → r.total ≡ s.total → Decided s p d h v b c x r
   decided_early e ne q t =
-      let late : early_number s p d h v b c x ≡ 0 → ⊥ = λ z. ne (e ∙ z) in
+      let late : early_number s p d h v b c (length x) ≡ 0 → ⊥ = λ z. ne (e ∙ z) in
       record {
         answer = record {
           found = pos 0;
-          number = e ∙ sym (call_early s p d h v b c x (pos 0) 0 late);
+          number = e ∙ sym (call_early s p d h v b c (length x) (pos 0) 0 late);
           refused = λ _. q;
           change = λ _. q;
           decided = λ z. absurd (late z);
@@ -119,14 +119,14 @@ module _ (s : Settings) (p : Pictures) (d : Depths) (h : Held) (v : ℕ) (b : Bl
         kept = λ _. t;
       }
 
-  pub decided_late : {old new : ℕ} → early_number s p d h v b c x ≡ 0 → Tried s p d h v b (filled b c x) old new → Judged s.total old new (worst * area s) 0 r → Decided s p d h v b c x r
+  pub decided_late : {old new : ℕ} → early_number s p d h v b c (length x) ≡ 0 → Tried s p d h v b (filled b c x) old new → Judged s.total old new (worst * area s) 0 r → Decided s p d h v b c x r
   unfolding in_range
   decided_late {old} {new} e t j =
       let f = passed s p d h v b c x e in
       record {
         answer = record {
           found = sub_ℕ new old;
-          number = j.number ∙ sym (call_late s p d h v b c x (sub_ℕ new old) 0 e);
+          number = j.number ∙ sym (call_late s p d h v b c (length x) (sub_ℕ new old) 0 e);
           refused = j.refused;
           change = j.change;
           decided = λ _ z. sum_change s p d h v b (filled b c x) t f z;

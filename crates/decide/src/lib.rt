@@ -1,5 +1,5 @@
 // What GET decides: the first refusal that applies, or the change of the total.
-ghost use Rattle.std.specs.Prelude.{◌≡◌, false};
+ghost use Rattle.std.specs.Prelude.{◌≡◌, false, length};
 ghost use Rattle.model.specs.declared.Candidate.TheVariants.{Full};
 ghost use Rattle.model.specs.Views.{is_right};
 ghost use Rattle.model.specs.Planes.{pictures, depths};
@@ -51,7 +51,7 @@ fn try_lent(
         (pictures left.now right.now reference.now)
         (depths leftDepths.now rightDepths.now)
         (held_of leftSamples.now leftFronts.now leftLimits.now leftMarks.now rightSamples.now rightFronts.now rightLimits.now rightMarks.now combined.now)
-        view block Full bytes.now ≡ 0 }
+        view block Full (length bytes.now) ≡ 0 }
     ensures { Tried (settings_of w h leftTable.now rightTable.now share tolerance tear 0)
         (pictures left.now right.now reference.now)
         (depths leftDepths.now rightDepths.now)
@@ -144,7 +144,7 @@ fn try_made(
         (pictures left.now right.now reference.now)
         (depths leftDepths.now rightDepths.now)
         (held_of leftSamples.now leftFronts.now leftLimits.now leftMarks.now rightSamples.now rightFronts.now rightLimits.now rightMarks.now combined.now)
-        view block candidate bytes.now ≡ 0 }
+        view block candidate (length bytes.now) ≡ 0 }
     requires candidate_value { is_lent candidate ≡ false }
     ensures { Tried (settings_of w h leftTable.now rightTable.now share tolerance tear 0)
         (pictures left.now right.now reference.now)
@@ -240,7 +240,7 @@ fn try_candidate(
         (pictures left.now right.now reference.now)
         (depths leftDepths.now rightDepths.now)
         (held_of leftSamples.now leftFronts.now leftLimits.now leftMarks.now rightSamples.now rightFronts.now rightLimits.now rightMarks.now combined.now)
-        view block candidate bytes.now ≡ 0 }
+        view block candidate (length bytes.now) ≡ 0 }
     ensures { Tried (settings_of w h leftTable.now rightTable.now share tolerance tear 0)
         (pictures left.now right.now reference.now)
         (depths leftDepths.now rightDepths.now)
@@ -361,8 +361,7 @@ pub fn decide<'a>(
     };
     let common = validate::common(w, h, leftTable, rightTable, share, tear, lengths);
     let before = validate::with_block(common, w, h, view, block);
-    let counted = validate::with_candidate(before, block, candidate, bytes.len());
-    let first = validate::with_tree(counted, block, candidate, bytes);
+    let first = validate::with_candidate(before, block, candidate, bytes.len());
     if model::number(first) != 0 {
         return judge::refused(first, total);
     }

@@ -1,13 +1,11 @@
 -- The rows of the block that an accepted candidate stands for.
 --     row_filled       row i of the filled block
 --     row_there        the row can be made
---     startable        what comes before the first row can be made
 --     lent_filled, lent_full     a candidate whose rows are lent
---     whole_tree, there_whole    one whose rows are made at once
 --     line_row, mask_row, rows_more, made-..     rows as they are made
 use Prim.Native.Nat.{ℕ, ◌+◌, ◌-◌, ◌*◌, ◌<◌, ◌≤◌}
 use mathlib.Core.Path.{◌≡◌, refl, sym, ap, ◌∙◌}
-use mathlib.Core.Bool.{Bool, true, cond, true≢false}
+use mathlib.Core.Bool.{Bool, true, cond, not, true≢false}
 use mathlib.Core.List.{List, ◌++◌}
 use mathlib.Core.Logic.{⊎_elim}
 use native.Mathlib.Omega.{arith}
@@ -20,18 +18,17 @@ use Rattle.model.specs.declared.Point.{Point}
 use Rattle.model.specs.declared.Split.{Split}
 use Rattle.model.specs.declared.Split.TheVariants.{Line, Mask}
 use Rattle.model.specs.declared.Candidate.{Candidate}
-use Rattle.model.specs.declared.Candidate.TheVariants.{Full, Flat, Regions, Tree}
+use Rattle.model.specs.declared.Candidate.TheVariants.{Full, Flat, Regions}
 use Rattle.model.specs.Lists.{list_of, row_of}
 use Rattle.model.specs.Marks.{mark_bytes, mark_at}
-use Rattle.model.specs.Candidates.{positions, in_region1, filled, on_border, line_ok}
-use Rattle.model.specs.Trees.{tree_filled}
-use Rattle.model.specs.Refusals.{count_then, tree_then, candidate_then}
+use Rattle.model.specs.Candidates.{positions, in_region1, filled, on_border, side_shared, line_ok}
+use Rattle.model.specs.Refusals.{candidate_then}
 use Rattle.model.proofs.Choice.{lt_or_le, and_left, and_right}
 use Rattle.model.proofs.Lists.{length-list_of, get_or-list_of, list_of_lem, list_same, rows_apart, length-row, length_plane_row, get_or_row, entry_fits}
 use Rattle.model.proofs.Refusals.{unless_true}
-use Rattle.model.proofs.Candidates.{border_inside, tree_taken}
+use Rattle.model.proofs.Candidates.{border_inside}
 use Rattle.planes.proofs.Splices.{length-splice, row_whole, row_other_whole, put_back}
-use Rattle.fill.specs.Rows.{above, below, Near, filled_row, RowThere, is_lent, is_whole, room_of, made_at, row_in, Startable, Started, RowsMade}
+use Rattle.fill.specs.Rows.{above, below, Near, filled_row, RowThere, is_lent, room_of, row_in, Started, RowsMade}
 use Rattle.fill.proofs.Lines.{line_region}
 
 -- row i of a rule's list
@@ -47,15 +44,14 @@ module _ (b : Block) (x : List ℕ) (i : ℕ) (inside : i < b.height) where
   row_filled Full = refl
   row_filled (Flat depth) = row_list (λ k. depth) b.width b.height i inside
   row_filled (Regions value0 value1 split) = row_list (λ k. cond (in_region1 b.width split x k) value1 value0) b.width b.height i inside
-  row_filled Tree = refl
 
   near : (p : Point) → b.width ≤ 4096 → b.height ≤ 4096 → on_border b p ≡ true → Near p
   near p w h e =
       let inside = border_inside b p e in
       record { column = omega (arith, inside.0); row = omega (arith, inside.1) }
 
-  pub row_there : (c : Candidate) → b.width ≤ 4096 → b.height ≤ 4096 → candidate_then b c x 0 ≡ 0 → RowThere b.width c x i
-  unfolding candidate_then count_then tree_then line_ok
+  pub row_there : (c : Candidate) → b.width ≤ 4096 → b.height ≤ 4096 → candidate_then b c (length x) 0 ≡ 0 → RowThere b.width c x i
+  unfolding candidate_then line_ok
   row_there Full w h e =
       let n = eqb-true (length x) (positions b) (unless_true (eqb (length x) (positions b)) 6 0 e) in
       omega (arith, rows_apart b.width i b.height inside, mul_comm b.width b.height)
@@ -66,22 +62,12 @@ module _ (b : Block) (x : List ℕ) (i : ℕ) (inside : i < b.height) where
   row_there (Regions value0 value1 Mask) w h e =
       let n = eqb-true (length x) (mark_bytes (positions b)) (unless_true (eqb (length x) (mark_bytes (positions b))) 14 0 e) in
       omega (arith, rows_apart b.width i b.height inside, mul_comm b.width b.height)
-  row_there Tree w h e = omega (arith, (tree_taken b x e).square.same)
-
--- a tree that is accepted can be made in a room of its block's size
-pub startable : (b : Block) (c : Candidate) (x room : List ℕ) → candidate_then b c x 0 ≡ 0 → length room ≡ room_of b.width c 1 → Startable b.width c x room
-unfolding room_of
-startable b Full x room e l = tt
-startable b (Flat depth) x room e l = tt
-startable b (Regions value0 value1 split) x room e l = tt
-startable b Tree x room e l = let t = tree_taken b x e in (t.square.side, (t.exact, l))
 
 -- a row that is lent lies in the bytes
 pub there_lent : (w : ℕ) (c : Candidate) (x : List ℕ) (i : ℕ) → is_lent c ≡ true → RowThere w c x i → i * w + w ≤ length x
 there_lent w Full x i e h = h
 there_lent w (Flat depth) x i e h = absurd (true≢false (sym e))
 there_lent w (Regions value0 value1 split) x i e h = absurd (true≢false (sym e))
-there_lent w Tree x i e h = absurd (true≢false (sym e))
 
 -- and the block is its bytes
 pub lent_filled : (b : Block) (c : Candidate) (x : List ℕ) → is_lent c ≡ true → filled b c x ≡ x
@@ -89,27 +75,11 @@ unfolding filled
 lent_filled b Full x e = refl
 lent_filled b (Flat depth) x e = absurd (true≢false (sym e))
 lent_filled b (Regions value0 value1 split) x e = absurd (true≢false (sym e))
-lent_filled b Tree x e = absurd (true≢false (sym e))
 
 pub lent_full : (c : Candidate) → is_lent c ≡ true → c ≡ Full
 lent_full Full e = refl
 lent_full (Flat depth) e = absurd (true≢false (sym e))
 lent_full (Regions value0 value1 split) e = absurd (true≢false (sym e))
-lent_full Tree e = absurd (true≢false (sym e))
-
-pub whole_tree : (c : Candidate) → is_whole c ≡ true → c ≡ Tree
-whole_tree Full e = absurd (true≢false (sym e))
-whole_tree (Flat depth) e = absurd (true≢false (sym e))
-whole_tree (Regions value0 value1 split) e = absurd (true≢false (sym e))
-whole_tree Tree e = refl
-
--- a row of a tree lies in the room that holds them all
-pub there_whole : (w : ℕ) (c : Candidate) (x : List ℕ) (i : ℕ) (room : List ℕ) → is_whole c ≡ true → RowThere w c x i → length room ≡ room_of w c 1 → i * w + w ≤ length room
-unfolding room_of
-there_whole w Full x i room e h l = absurd (true≢false (sym e))
-there_whole w (Flat depth) x i room e h l = absurd (true≢false (sym e))
-there_whole w (Regions value0 value1 split) x i room e h l = absurd (true≢false (sym e))
-there_whole w Tree x i room e h l = omega (arith, l, rows_apart w i w h)
 
 -- ---- rows as they are made
 
@@ -137,8 +107,8 @@ module _ (w : ℕ) (c : Candidate) (x : List ℕ) (i n : ℕ) where
   unfolding row_in filled_row
   made_full room e = rw e (record { row = λ k h. refl; started = tt; size = refl })
 
-  pub made_flat : (room : List ℕ) {depth : ℕ} → c ≡ Flat depth → length room ≡ room_of w c n → Started w c x room → RowsMade w c x i n room room
-  unfolding row_in made_at filled_row room_of
+  pub made_flat : (room : List ℕ) {depth : ℕ} → c ≡ Flat depth → length room ≡ room_of c (n * w) → Started c room → RowsMade w c x i n room room
+  unfolding row_in filled_row room_of
   made_flat room {depth} e l s =
       let h : (k : ℕ) → k < length room → get_or room k 0 ≡ depth = rw e at s in
       let m : length room ≡ n * w = rw e at l in
@@ -151,14 +121,8 @@ module _ (w : ℕ) (c : Candidate) (x : List ℕ) (i n : ℕ) where
       })
 
   pub made_regions : (room room' : List ℕ) {value0 value1 : ℕ} {split : Split} → c ≡ Regions value0 value1 split → length room' ≡ length room → ((k : ℕ) → k < n → row_of room' w k ≡ filled_row w (Regions value0 value1 split) x (i + k)) → RowsMade w c x i n room room'
-  unfolding row_in made_at
+  unfolding row_in
   made_regions room room' e l h = rw e (record { row = h; started = tt; size = l })
-
-  pub made_tree : (room : List ℕ) → c ≡ Tree → Started w c x room → RowsMade w c x i n room room
-  unfolding row_in made_at filled_row
-  made_tree room e s =
-      let same : room ≡ tree_filled w x = rw e at s in
-      rw e (record { row = λ k h. ap (λ (r : List ℕ). row_of r w (i + k)) same; started = same; size = refl })
 
 -- one more row, put back into the room
 pub rows_more : (w k : ℕ) (f : ℕ → List ℕ) (room ys : List ℕ) → k * w + w ≤ length room → length ys ≡ w → ys ≡ f k → ((j : ℕ) → j < k → row_of room w j ≡ f j) → (length (take (k * w) room ++ (ys ++ drop (k * w + w - k * w) (drop (k * w) room))) ≡ length room) × ((j : ℕ) → j < k + 1 → row_of (take (k * w) room ++ (ys ++ drop (k * w + w - k * w) (drop (k * w) room))) w j ≡ f j)

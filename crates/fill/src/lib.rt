@@ -1,9 +1,9 @@
-// The rows of a candidate. A full block's rows are lent as they are, a tree's are made all at once, and rows of any other kind one by one, in a room.
+// The rows of a candidate. A full block's rows are lent as they are; rows of any other kind are made in a room, by one leaf a kind.
 ghost use Rattle.std.specs.Prelude.{◌≡◌, cond, ◌+◌, ◌*◌, ◌≤◌, ltb, eqb, length};
 ghost use Rattle.model.specs.declared.Candidate.TheVariants.{Regions};
 ghost use Rattle.model.specs.Lists.{list_of};
 ghost use Rattle.model.specs.Marks.{mark_at};
-ghost use Rattle.fill.specs.Rows.{above, below, Near, is_lent, is_whole, room_of, Startable, Started, RowThere, RowsThere, filled_row, row_in, RowsMade};
+ghost use Rattle.fill.specs.Rows.{above, below, Near, is_lent, room_of, Started, RowThere, RowsThere, filled_row, row_in, RowsMade};
 
 use model::{Candidate, Point, Split};
 
@@ -19,39 +19,14 @@ pub fn lent(candidate: Candidate) -> bool
             value1: _,
             split: _,
         } => false,
-        Candidate::Tree => false,
     }
 }
 
-// Whether all rows of the candidate are made at once.
-pub fn whole(candidate: Candidate) -> bool
-    ensures { result ≡ is_whole candidate }
-{
-    match candidate {
-        Candidate::Full => false,
-        Candidate::Flat(_) => false,
-        Candidate::Regions {
-            value0: _,
-            value1: _,
-            split: _,
-        } => false,
-        Candidate::Tree => true,
-    }
-}
-
-// The entries of the room that a row takes: none where the rows are lent, the whole square where they are made at once.
+// The entries of the room that one row takes: none where the rows are lent.
 pub fn room_of(candidate: Candidate, width: usize) -> usize
-    requires { width ≤ 4096 }
-    ensures { result ≡ room_of width candidate 1 }
+    ensures { result ≡ room_of candidate width }
 {
-    if lent(candidate) {
-        return 0;
-    }
-    if whole(candidate) {
-        width * width
-    } else {
-        width
-    }
+    if lent(candidate) { 0 } else { width }
 }
 
 // A room for several rows of most blocks. It is cleared for every call, so it is no larger than that takes.
@@ -73,6 +48,17 @@ fn value_of(one: bool, value0: u8, value1: u8) -> u8
     ensures { result ≡ cond one value1 value0 }
 {
     if one { value1 } else { value0 }
+}
+
+// One value in every entry.
+fn fill_flat(depth: u8, room: &mut [u8])
+    ensures { room.new ≡ list_of (λ k. depth) (length room.old) }
+{
+    let mut k = 0;
+    while k < room.len() {
+        room[k] = depth;
+        k += 1;
+    }
 }
 
 // A value for each column: value1 where `under` < `over`, both of which grow by a fixed step from column to column.
@@ -114,20 +100,18 @@ fn fill_mask(bits: &[u8], from: usize, value0: u8, value1: u8, room: &mut [u8])
     }
 }
 
-// What is made before the first row: one value is written once, over the whole room, and a tree's rows are all made.
-pub fn start(candidate: Candidate, bytes: &[u8], width: usize, room: &mut [u8])
-    requires { Startable width candidate bytes.now room.old }
-    ensures { (Started width candidate bytes.now room.new) × (length room.new ≡ length room.old) }
+// What is the same in every row: one value is written once, over the whole room.
+pub fn start(candidate: Candidate, room: &mut [u8])
+    ensures { (Started candidate room.new) × (length room.new ≡ length room.old) }
 {
     match candidate {
         Candidate::Full => {}
-        Candidate::Flat(depth) => quarters::fill_flat(depth, room),
+        Candidate::Flat(depth) => fill_flat(depth, room),
         Candidate::Regions {
             value0: _,
             value1: _,
             split: _,
         } => {}
-        Candidate::Tree => quarters::fill_tree(bytes, width, room),
     }
 }
 
@@ -152,7 +136,7 @@ pub fn fill_rows(
     room: &mut [u8],
 )
     requires rows_there { (RowsThere width candidate bytes.now i n) × ((width ≤ 4096) × (i + n ≤ 4096)) }
-    requires room_len { (length room.old ≡ room_of width candidate n) × (Started width candidate bytes.now room.old) }
+    requires room_len { (length room.old ≡ room_of candidate (n * width)) × (Started candidate room.old) }
     ensures { RowsMade width candidate bytes.now i n room.old room.new }
 {
     match candidate {
@@ -171,11 +155,10 @@ pub fn fill_rows(
                 k += 1;
             }
         }
-        Candidate::Tree => {}
     }
 }
 
-// Row i, to be lent on: a part of the bytes, a part of the room that holds all rows, or the room in which it was made.
+// Row i, to be lent on: a part of the bytes, or the room in which it was made.
 pub fn row_of<'a>(
     candidate: Candidate,
     bytes: &'a [u8],
@@ -183,16 +166,13 @@ pub fn row_of<'a>(
     i: usize,
     room: &'a [u8],
 ) -> &'a [u8]
-    requires { (RowThere width candidate bytes.now i) × ((width ≤ 4096) × ((i ≤ 4095) × (length room.now ≡ room_of width candidate 1))) }
+    requires { (RowThere width candidate bytes.now i) × ((width ≤ 4096) × (i ≤ 4095)) }
     ensures { result.now ≡ row_in width candidate bytes.now i room.now }
 {
-    let from = i * width;
-    let to = from + width;
     if lent(candidate) {
+        let from = i * width;
+        let to = from + width;
         return &bytes[from..to];
-    }
-    if whole(candidate) {
-        return &room[from..to];
     }
     room
 }

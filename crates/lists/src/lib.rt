@@ -52,7 +52,7 @@ pub fn open_refusal(
     }
 }
 
-// 1, 2, 3, 4, 20, 6, 5, then the candidate's own number, the first that applies: all that SET refuses before it tries the candidate.
+// 1, 2, 3, 4, 20, 6, 5, then the candidate's own number, the first that applies: all that SET refuses before it tries the candidate, of whose bytes there are n.
 pub fn set_refusal<'a>(
     w: u32,
     h: u32,
@@ -64,14 +64,13 @@ pub fn set_refusal<'a>(
     view: u32,
     block: Block,
     candidate: Candidate,
-    bytes: &[u8],
+    n: usize,
 ) -> Refusal
-    ensures { number_of result ≡ common_number w h leftTable.now rightTable.now share tear lengths (own_number w h view block (candidate_then block candidate bytes.now 0)) }
+    ensures { number_of result ≡ common_number w h leftTable.now rightTable.now share tear lengths (own_number w h view block (candidate_then block candidate n 0)) }
 {
     let common = validate::common(w, h, leftTable, rightTable, share, tear, lengths);
     let before = validate::with_block(common, w, h, view, block);
-    let counted = validate::with_candidate(before, block, candidate, bytes.len());
-    validate::with_tree(counted, block, candidate, bytes)
+    validate::with_candidate(before, block, candidate, n)
 }
 
 // 1, 2, 3, 4, 20, 13 or 12, the first that applies: all that TAKE BACK refuses before it tries what was saved.

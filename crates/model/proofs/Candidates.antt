@@ -1,10 +1,9 @@
 -- Candidates that are taken.
 --     border_inside        a border point lies in the block
---     tree_taken           an accepted tree's block is a square of a side that is taken, and its bytes are exactly one tree
 --     candidate_filled     the block that a candidate stands for has a depth for each position
 --     mask_spare           spare bits of a mask are ignored
-use Prim.Native.Nat.{ℕ, ◌*◌, ◌<◌}
-use mathlib.Core.Path.{◌≡◌, ◌∙◌}
+use Prim.Native.Nat.{ℕ, ◌<◌}
+use mathlib.Core.Path.{◌≡◌}
 use mathlib.Core.Bool.{true, cond}
 use mathlib.Core.List.{List}
 use lib.Dec.{ltb, eqb}
@@ -14,15 +13,13 @@ use Rattle.model.specs.declared.Block.{Block}
 use Rattle.model.specs.declared.Point.{Point}
 use Rattle.model.specs.declared.Split.TheVariants.{Mask}
 use Rattle.model.specs.declared.Candidate.{Candidate}
-use Rattle.model.specs.declared.Candidate.TheVariants.{Full, Flat, Regions, Tree}
+use Rattle.model.specs.declared.Candidate.TheVariants.{Full, Flat, Regions}
 use Rattle.model.specs.Marks.{mark_at}
 use Rattle.model.specs.Candidates.{positions, in_region1, filled, on_border}
-use Rattle.model.specs.Trees.{square_ok, is_tree}
-use Rattle.model.specs.Refusals.{count_then, tree_then, candidate_then}
+use Rattle.model.specs.Refusals.{candidate_then}
 use Rattle.model.proofs.Choice.{and_left, and_right}
 use Rattle.model.proofs.Lists.{length-list_of, list_same}
-use Rattle.model.proofs.Refusals.{unless_true, unless_rest}
-use Rattle.model.proofs.Trees.{Square, square_facts, length-filled}
+use Rattle.model.proofs.Refusals.{unless_true}
 
 pub border_inside : (b : Block) (p : Point) → on_border b p ≡ true → (p.column < b.width) × (p.row < b.height)
 unfolding on_border
@@ -30,29 +27,12 @@ border_inside b p e =
     let inside = and_left _ _ e in
     (ltb-true p.column b.width (and_left (ltb p.column b.width) _ inside), ltb-true p.row b.height (and_right (ltb p.column b.width) _ inside))
 
--- what an accepted tree has passed
-pub record TreeTaken (b : Block) (x : List ℕ) : Type 0 where
-  pub square : Square b
-  pub exact : is_tree b.width x ≡ true
-
-pub tree_taken : (b : Block) (x : List ℕ) → candidate_then b Tree x 0 ≡ 0 → TreeTaken b x
-unfolding candidate_then count_then tree_then
-tree_taken b x e =
-    record {
-      square = square_facts b (unless_true (square_ok b) 15 _ e);
-      exact = unless_true (is_tree b.width x) 16 0 (unless_rest (square_ok b) 15 _ e);
-    }
-
 -- the block that an accepted candidate stands for has a depth for each position
-pub candidate_filled : (b : Block) (c : Candidate) (x : List ℕ) → candidate_then b c x 0 ≡ 0 → length (filled b c x) ≡ positions b
-unfolding candidate_then count_then tree_then filled
+pub candidate_filled : (b : Block) (c : Candidate) (x : List ℕ) → candidate_then b c (length x) 0 ≡ 0 → length (filled b c x) ≡ positions b
+unfolding candidate_then filled
 candidate_filled b Full x e = eqb-true (length x) (positions b) (unless_true (eqb (length x) (positions b)) 6 0 e)
 candidate_filled b (Flat depth) x e = length-list_of _ (positions b)
 candidate_filled b (Regions value0 value1 split) x e = length-list_of _ (positions b)
-candidate_filled b Tree x e =
-    let t = tree_taken b x e in
-    let same : b.width * b.width ≡ positions b = rw t.square.same in
-    length-filled b.width x t.square.side t.exact ∙ same
 
 -- spare bits are ignored: a mask is its bits at the block's positions
 pub mask_spare : (b : Block) (value0 value1 : ℕ) (x y : List ℕ) → ((i : ℕ) → i < positions b → mark_at x i ≡ mark_at y i) → filled b (Regions value0 value1 Mask) x ≡ filled b (Regions value0 value1 Mask) y

@@ -1,17 +1,14 @@
--- Values of the definitions where no other law tells right from nearly right: the step k with its ties, every case of a combined sample, the quarters of a
--- tree, the numbers of CHECK, RENDER and HOLES with one length wrong or with several faults, what a MOVE draws with, what is held as it is read, and the ends
--- of the totals.
-use Prim.Native.Nat.{ℕ, ◌*◌}
+-- Values of the definitions where no other law tells right from nearly right: the step k with its ties, every case of a combined sample, the numbers of CHECK,
+-- RENDER and HOLES with one length wrong or with several faults, what a MOVE draws with, what is held as it is read, and the ends of the totals.
+use Prim.Native.Nat.{ℕ}
 use mathlib.Core.Path.{◌≡◌, refl}
 use mathlib.Core.Bool.{Bool, true, false}
 use mathlib.Core.List.{List, [], ◌∷◌}
 use lib.IntN.{ℤ, pos}
-use lib.ListN.{get_or}
 use Rattle.model.specs.declared.Settings.{Settings}
 use Rattle.model.specs.Lists.{list_of, list_from}
 use Rattle.model.specs.Row.{step_of, read, sample_in, neg, pixel}
 use Rattle.model.specs.Combined.{blended, both_shown, both_holes, combined_of}
-use Rattle.model.specs.Trees.{side_of, flat, split, depth_in, depths_of}
 use Rattle.model.specs.Planes.{pictures, depths, view, held, strip, with_total, with_seat, with_reference, read_all, read_held}
 use Rattle.model.specs.Refusals.{side_ok, size_ok, pictures_sized, depths_sized, view_sized, held_sized, planes_sized, up_to, tables_ok, tear_ok, in_range, common_then, check_number, strip_sized, render_number, holes_number}
 
@@ -60,15 +57,6 @@ one_shown = (refl, refl, refl, refl)
 both_holes_lem : (combining 1 6 1 7 ≡ 100) × (combining 1 7 1 6 ≡ 202) × (combining 1 7 1 7 ≡ 100)
 unfolding combined_of both_holes
 both_holes_lem = (refl, refl, refl)
-
--- ---- trees
-
--- every fourth depth of a split of side 8: quarters and positions come by rows
-quarters :
-    list_of (λ i. get_or (depths_of (split {k = 0} (flat 1) (flat 2) (flat 3) (flat 4))) (4 * i) 0) 16
-    ≡ 1 ∷ 2 ∷ 1 ∷ 2 ∷ 1 ∷ 2 ∷ 1 ∷ 2 ∷ 3 ∷ 4 ∷ 3 ∷ 4 ∷ 3 ∷ 4 ∷ 3 ∷ 4 ∷ []
-unfolding depths_of depth_in side_of list_from
-quarters = refl
 
 -- ---- numbers
 

@@ -13,7 +13,6 @@ pub mod Written
 pub mod Totals
 pub mod Locality
 pub mod Refusals
-pub mod Trees
 pub mod Candidates
 pub mod Journals
 pub mod Pairs

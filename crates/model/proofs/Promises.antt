@@ -10,7 +10,7 @@ use mathlib.Core.Path.{◌≡◌, refl, ap, sym, ◌∙◌}
 use mathlib.Core.Bool.{true, false}
 use mathlib.Core.List.{List}
 use lib.IntN.{ℤ, pos, ◌+ℤ◌, ◌-ℤ◌, nat_abs}
-use lib.ListN.{get_or}
+use lib.ListN.{length, get_or}
 use Rattle.model.specs.declared.Settings.{Settings}
 use Rattle.model.specs.declared.Block.{Block}
 use Rattle.model.specs.declared.Candidate.{Candidate}
@@ -98,11 +98,11 @@ row_stays s v b h₀ h same y x out l =
 -- ---- an accepted GET or SET has passed every test before 8
 
 module _ (s : Settings) (p : Pictures) (d : Depths) (h : Held) (v : ℕ) (b : Block) (c : Candidate) (x : List ℕ) where
-  pub get_early : {r : Trial} → GetPost s p d h v b c x r → number_of r.refusal ≡ 0 → early_number s p d h v b c x ≡ 0
-  get_early post z = call_zero s p d h v b c x post.found 0 (sym post.number ∙ z)
+  pub get_early : {r : Trial} → GetPost s p d h v b c x r → number_of r.refusal ≡ 0 → early_number s p d h v b c (length x) ≡ 0
+  get_early post z = call_zero s p d h v b c (length x) post.found 0 (sym post.number ∙ z)
 
-  pub set_early : {d' : Depths} {h' : Held} {j j' : List ℕ} {r : Edited} → SetPost s p d d' h h' j j' v b c x r → number_of r.refusal ≡ 0 → early_number s p d h v b c x ≡ 0
-  set_early {j = j} post z = call_zero s p d h v b c x post.found (saving_then s b j 0) (sym post.number ∙ z)
+  pub set_early : {d' : Depths} {h' : Held} {j j' : List ℕ} {r : Edited} → SetPost s p d d' h h' j j' v b c x r → number_of r.refusal ≡ 0 → early_number s p d h v b c (length x) ≡ 0
+  set_early {j = j} post z = call_zero s p d h v b c (length x) post.found (saving_then s b j 0) (sym post.number ∙ z)
 
 -- ---- an edit of a sound session
 

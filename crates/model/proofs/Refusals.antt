@@ -2,7 +2,7 @@
 --     ..-yes, ..-facts                    a test from its facts, and the facts from the test
 --     Before, common_before, ..           a number that applies is the same whatever follows in the list; where none applies, what follows decides
 --     call_late, call_early, taken-..     8 decides exactly where nothing before it does
---     size_first, .., view_first, ..      the first that applies wins; full_number, side_first, tree_next: of a full block's and a tree's own
+--     size_first, .., view_first, ..      the first that applies wins
 --     room-..                             11 applies exactly where words are too few or the index passes 32 bits
 --     in_range_sound                      in a sound session 8 never applies
 use Prim.Native.Nat.{ℕ, zero, suc, ◌+◌, ◌*◌, ◌<◌, ◌≤◌}
@@ -21,14 +21,13 @@ use Rattle.model.specs.declared.Settings.{Settings}
 use Rattle.model.specs.declared.Block.{Block}
 use Rattle.model.specs.declared.Split.TheVariants.{Line, Mask}
 use Rattle.model.specs.declared.Candidate.{Candidate}
-use Rattle.model.specs.declared.Candidate.TheVariants.{Full, Flat, Regions, Tree}
+use Rattle.model.specs.declared.Candidate.TheVariants.{Full, Flat, Regions}
 use Rattle.model.specs.Marks.{mark_bytes}
 use Rattle.model.specs.Combined.{worst}
 use Rattle.model.specs.Planes.{Pictures, Depths, View, Held, area, with_total}
 use Rattle.model.specs.Candidates.{positions, line_ok}
-use Rattle.model.specs.Trees.{square_ok, is_tree}
 use Rattle.model.specs.Journals.{record_size, next_index}
-use Rattle.model.specs.Refusals.{unless, side_ok, size_ok, pictures_sized, depths_sized, view_sized, held_sized, planes_sized, up_to, table_ok, tables_ok, share_ok, tear_ok, block_ok, view_ok, count_then, tree_then, candidate_then, within, in_range, words_ok, journal_ok, room_ok, some_record, common_then, own_then, saving_then, taking_then, open_number, early_number, call_then, take_back_number, take_back_early}
+use Rattle.model.specs.Refusals.{unless, side_ok, size_ok, pictures_sized, depths_sized, view_sized, held_sized, planes_sized, up_to, table_ok, tables_ok, share_ok, tear_ok, block_ok, view_ok, candidate_then, within, in_range, words_ok, journal_ok, room_ok, some_record, common_then, own_then, saving_then, taking_then, open_number, early_number, call_then, take_back_number, take_back_early}
 use Rattle.model.proofs.Choice.{bool_cases, and_true, and_left, and_right, and_off}
 use Rattle.model.proofs.Fresh.{DepthsOf}
 
@@ -341,43 +340,29 @@ common_yes s p d h rest f =
 
 -- ---- a call's own tests
 
-module _ (s : Settings) (v : ℕ) (b : Block) (c : Candidate) (x : List ℕ) where
+module _ (s : Settings) (v : ℕ) (b : Block) (c : Candidate) (n : ℕ) where
   -- the first that applies wins: 6, then 5, then the candidate's own number
-  pub view_first : (rest : ℕ) → view_ok v ≡ false → own_then s v b c x rest ≡ 6
+  pub view_first : (rest : ℕ) → view_ok v ≡ false → own_then s v b c n rest ≡ 6
   unfolding own_then
   view_first rest e = rw e
 
-  pub block_next : (rest : ℕ) → view_ok v ≡ true → block_ok s b ≡ false → own_then s v b c x rest ≡ 5
+  pub block_next : (rest : ℕ) → view_ok v ≡ true → block_ok s b ≡ false → own_then s v b c n rest ≡ 5
   unfolding own_then
   block_next rest e f = rw (e, f)
 
-  pub candidate_last : (rest : ℕ) → view_ok v ≡ true → block_ok s b ≡ true → own_then s v b c x rest ≡ candidate_then b c x rest
+  pub candidate_last : (rest : ℕ) → view_ok v ≡ true → block_ok s b ≡ true → own_then s v b c n rest ≡ candidate_then b c n rest
   unfolding own_then
   candidate_last rest e f = rw (e, f)
 
--- a full block has 7 alone; a tree has 16, then 17
-module _ (b : Block) (x : List ℕ) (rest : ℕ) where
-  pub full_number : candidate_then b Full x rest ≡ unless (eqb (length x) (positions b)) 7 rest
-  unfolding candidate_then count_then tree_then
-  full_number = refl
-
-  pub side_first : square_ok b ≡ false → candidate_then b Tree x rest ≡ 16
-  unfolding candidate_then count_then tree_then
-  side_first e = rw e
-
-  pub tree_next : square_ok b ≡ true → is_tree b.width x ≡ false → candidate_then b Tree x rest ≡ 17
-  unfolding candidate_then count_then tree_then
-  tree_next e f = rw (e, f)
-
 -- what a call's own tests have shown
-pub record OwnTests (s : Settings) (v : ℕ) (b : Block) (c : Candidate) (x : List ℕ) : Type 0 where
+pub record OwnTests (s : Settings) (v : ℕ) (b : Block) (c : Candidate) (n : ℕ) : Type 0 where
   pub view : v ≤ 1
   pub block : Inside s b
-  pub candidate : candidate_then b c x 0 ≡ 0
+  pub candidate : candidate_then b c n 0 ≡ 0
 
-pub own_facts : (s : Settings) (v : ℕ) (b : Block) (c : Candidate) (x : List ℕ) → own_then s v b c x 0 ≡ 0 → OwnTests s v b c x
+pub own_facts : (s : Settings) (v : ℕ) (b : Block) (c : Candidate) (n : ℕ) → own_then s v b c n 0 ≡ 0 → OwnTests s v b c n
 unfolding own_then
-own_facts s v b c x e =
+own_facts s v b c n e =
     let e₁ = unless_rest (view_ok v) 5 _ e in
     record {
       view = leb-true v 1 (unless_true (view_ok v) 5 _ e);
@@ -392,66 +377,40 @@ unfolding common_then
 common_before s p d h =
     one_before (size_ok s) 0 _ (one_before (planes_sized s p d h) 1 _ (one_before (tables_ok s) 2 _ (one_before (share_ok s) 3 _ (one_before (tear_ok s.tear) 19 _ none_before))))
 
-pub count_before : (b : Block) (c : Candidate) (n : ℕ) → Before (count_then b c n)
-unfolding count_then
-count_before b Full n = one_before (eqb n (positions b)) 6 _ none_before
-count_before b (Flat depth) n = none_before
-count_before b (Regions value0 value1 (Line start end)) n = one_before (line_ok b start end) 13 _ none_before
-count_before b (Regions value0 value1 Mask) n = one_before (eqb n (mark_bytes (positions b))) 14 _ none_before
-count_before b Tree n = none_before
-
-pub tree_before : (b : Block) (c : Candidate) (x : List ℕ) → Before (tree_then b c x)
-unfolding tree_then
-tree_before b Full x = none_before
-tree_before b (Flat depth) x = none_before
-tree_before b (Regions value0 value1 split) x = none_before
-tree_before b Tree x = one_before (square_ok b) 15 _ (one_before (is_tree b.width x) 16 _ none_before)
-
-pub candidate_before : (b : Block) (c : Candidate) (x : List ℕ) → Before (candidate_then b c x)
+pub candidate_before : (b : Block) (c : Candidate) (n : ℕ) → Before (candidate_then b c n)
 unfolding candidate_then
-candidate_before b c x = then_before (count_before b c (length x)) (tree_before b c x)
+candidate_before b Full n = one_before (eqb n (positions b)) 6 _ none_before
+candidate_before b (Flat depth) n = none_before
+candidate_before b (Regions value0 value1 (Line start end)) n = one_before (line_ok b start end) 13 _ none_before
+candidate_before b (Regions value0 value1 Mask) n = one_before (eqb n (mark_bytes (positions b))) 14 _ none_before
 
-pub own_before : (s : Settings) (v : ℕ) (b : Block) (c : Candidate) (x : List ℕ) → Before (own_then s v b c x)
+pub own_before : (s : Settings) (v : ℕ) (b : Block) (c : Candidate) (n : ℕ) → Before (own_then s v b c n)
 unfolding own_then
-own_before s v b c x = one_before (view_ok v) 5 _ (one_before (block_ok s b) 4 _ (candidate_before b c x))
+own_before s v b c n = one_before (view_ok v) 5 _ (one_before (block_ok s b) 4 _ (candidate_before b c n))
 
--- a call's own tests answer 0, 5, 6, 7, 14, 15, 16 or 17
+-- a call's own tests answer 0, 5, 6, 7, 14 or 15
 abbrev Usual : ℕ → Type 0
-Usual n = (n ≡ 0) ⊎ ((n ≡ 5) ⊎ ((n ≡ 6) ⊎ ((n ≡ 7) ⊎ ((n ≡ 14) ⊎ ((n ≡ 15) ⊎ ((n ≡ 16) ⊎ (n ≡ 17)))))))
+Usual n = (n ≡ 0) ⊎ ((n ≡ 5) ⊎ ((n ≡ 6) ⊎ ((n ≡ 7) ⊎ ((n ≡ 14) ⊎ (n ≡ 15)))))
 
 usual_unless : (t : Bool) (k n : ℕ) → Usual k → Usual n → Usual (unless t k n)
 usual_unless true k n f g = g
 usual_unless false k n f g = f
 
-tree_usual : (b : Block) (c : Candidate) (x : List ℕ) → Usual (tree_then b c x 0)
-unfolding tree_then
-tree_usual b Full x = inl refl
-tree_usual b (Flat depth) x = inl refl
-tree_usual b (Regions value0 value1 split) x = inl refl
-tree_usual b Tree x =
-    usual_unless (square_ok b) 16 _ (inr (inr (inr (inr (inr (inr (inl refl)))))))
-    (usual_unless (is_tree b.width x) 17 0 (inr (inr (inr (inr (inr (inr (inr refl))))))) (inl refl))
-
-count_usual : (b : Block) (c : Candidate) (n rest : ℕ) → Usual rest → Usual (count_then b c n rest)
-unfolding count_then
-count_usual b Full n rest u = usual_unless (eqb n (positions b)) 7 rest (inr (inr (inr (inl refl)))) u
-count_usual b (Flat depth) n rest u = u
-count_usual b (Regions value0 value1 (Line start end)) n rest u = usual_unless (line_ok b start end) 14 rest (inr (inr (inr (inr (inl refl))))) u
-count_usual b (Regions value0 value1 Mask) n rest u = usual_unless (eqb n (mark_bytes (positions b))) 15 rest (inr (inr (inr (inr (inr (inl refl)))))) u
-count_usual b Tree n rest u = u
-
-candidate_usual : (b : Block) (c : Candidate) (x : List ℕ) → Usual (candidate_then b c x 0)
+candidate_usual : (b : Block) (c : Candidate) (n : ℕ) → Usual (candidate_then b c n 0)
 unfolding candidate_then
-candidate_usual b c x = count_usual b c (length x) (tree_then b c x 0) (tree_usual b c x)
+candidate_usual b Full n = usual_unless (eqb n (positions b)) 7 0 (inr (inr (inr (inl refl)))) (inl refl)
+candidate_usual b (Flat depth) n = inl refl
+candidate_usual b (Regions value0 value1 (Line start end)) n = usual_unless (line_ok b start end) 14 0 (inr (inr (inr (inr (inl refl))))) (inl refl)
+candidate_usual b (Regions value0 value1 Mask) n = usual_unless (eqb n (mark_bytes (positions b))) 15 0 (inr (inr (inr (inr (inr refl))))) (inl refl)
 
-pub own_usual : (s : Settings) (v : ℕ) (b : Block) (c : Candidate) (x : List ℕ) → Usual (own_then s v b c x 0)
+pub own_usual : (s : Settings) (v : ℕ) (b : Block) (c : Candidate) (n : ℕ) → Usual (own_then s v b c n 0)
 unfolding own_then
-own_usual s v b c x =
-    usual_unless (view_ok v) 6 _ (inr (inr (inl refl))) (usual_unless (block_ok s b) 5 _ (inr (inl refl)) (candidate_usual b c x))
+own_usual s v b c n =
+    usual_unless (view_ok v) 6 _ (inr (inr (inl refl))) (usual_unless (block_ok s b) 5 _ (inr (inl refl)) (candidate_usual b c n))
 
-pub own_total : (s : Settings) (t v : ℕ) (b : Block) (c : Candidate) (x : List ℕ) (rest : ℕ) → own_then (with_total s t) v b c x rest ≡ own_then s v b c x rest
+pub own_total : (s : Settings) (t v : ℕ) (b : Block) (c : Candidate) (n rest : ℕ) → own_then (with_total s t) v b c n rest ≡ own_then s v b c n rest
 unfolding own_then block_ok
-own_total s t v b c x rest = refl
+own_total s t v b c n rest = refl
 
 -- 13, then 11; 13, then 12
 module _ (s : Settings) (j : List ℕ) (rest : ℕ) where
@@ -489,37 +448,37 @@ module _ (s : Settings) (p : Pictures) (d : Depths) (h : Held) where
   taken_before j = then_before (common_before s p d h) (taking_before s j)
 
   -- with no number before 8, 8 decides
-  pub taken_late : (j : List ℕ) (change : ℤ) → take_back_early s p d h j ≡ 0 → take_back_number s p d h j change ≡ unless (in_range s change) 8 0
-  taken_late j change e = (taken_before j).rest _ e
+  pub taken_late : (j : List ℕ) (x : ℤ) → take_back_early s p d h j ≡ 0 → take_back_number s p d h j x ≡ unless (in_range s x) 8 0
+  taken_late j x e = (taken_before j).rest _ e
 
-  pub taken_early : (j : List ℕ) (change : ℤ) → (take_back_early s p d h j ≡ 0 → ⊥) → take_back_number s p d h j change ≡ take_back_early s p d h j
-  taken_early j change ne = (taken_before j).stays _ ne
+  pub taken_early : (j : List ℕ) (x : ℤ) → (take_back_early s p d h j ≡ 0 → ⊥) → take_back_number s p d h j x ≡ take_back_early s p d h j
+  taken_early j x ne = (taken_before j).stays _ ne
 
-  module _ (v : ℕ) (b : Block) (c : Candidate) (x : List ℕ) where
+  module _ (v : ℕ) (b : Block) (c : Candidate) (n : ℕ) where
     -- what GET and SET refuse before 8
-    pub early_before : Before (λ k. common_then s p d h (own_then s v b c x k))
-    early_before = then_before (common_before s p d h) (own_before s v b c x)
+    pub early_before : Before (λ k. common_then s p d h (own_then s v b c n k))
+    early_before = then_before (common_before s p d h) (own_before s v b c n)
 
     -- a call with no early refusal has passed the common tests, and its own
-    pub early_common : early_number s p d h v b c x ≡ 0 → common_then s p d h 0 ≡ 0
-    early_common e = common_passed (own_then s v b c x 0) e
+    pub early_common : early_number s p d h v b c n ≡ 0 → common_then s p d h 0 ≡ 0
+    early_common e = common_passed (own_then s v b c n 0) e
 
-    pub early_own : early_number s p d h v b c x ≡ 0 → own_then s v b c x 0 ≡ 0
-    early_own e = rest_passed (common_before s p d h) (own_then s v b c x 0) e
+    pub early_own : early_number s p d h v b c n ≡ 0 → own_then s v b c n 0 ≡ 0
+    early_own e = rest_passed (common_before s p d h) (own_then s v b c n 0) e
 
-    pub early_facts : early_number s p d h v b c x ≡ 0 → Common s p d h × OwnTests s v b c x
-    early_facts e = (common_facts s p d h (early_common e), own_facts s v b c x (early_own e))
+    pub early_facts : early_number s p d h v b c n ≡ 0 → Common s p d h × OwnTests s v b c n
+    early_facts e = (common_facts s p d h (early_common e), own_facts s v b c n (early_own e))
 
     -- with no early refusal, 8 and the rest decide
-    pub call_late : (change : ℤ) (rest : ℕ) → early_number s p d h v b c x ≡ 0 → call_then s p d h v b c x change rest ≡ unless (in_range s change) 8 rest
-    call_late change rest e = early_before.rest _ e
+    pub call_late : (x : ℤ) (rest : ℕ) → early_number s p d h v b c n ≡ 0 → call_then s p d h v b c n x rest ≡ unless (in_range s x) 8 rest
+    call_late x rest e = early_before.rest _ e
 
-    pub call_early : (change : ℤ) (rest : ℕ) → (early_number s p d h v b c x ≡ 0 → ⊥) → call_then s p d h v b c x change rest ≡ early_number s p d h v b c x
-    call_early change rest ne = early_before.stays _ ne
+    pub call_early : (x : ℤ) (rest : ℕ) → (early_number s p d h v b c n ≡ 0 → ⊥) → call_then s p d h v b c n x rest ≡ early_number s p d h v b c n
+    call_early x rest ne = early_before.stays _ ne
 
     -- an accepted call passed every test before 8
-    pub call_zero : (change : ℤ) (rest : ℕ) → call_then s p d h v b c x change rest ≡ 0 → early_number s p d h v b c x ≡ 0
-    call_zero change rest e = passed early_before (unless (in_range s change) 8 rest) e
+    pub call_zero : (x : ℤ) (rest : ℕ) → call_then s p d h v b c n x rest ≡ 0 → early_number s p d h v b c n ≡ 0
+    call_zero x rest e = passed early_before (unless (in_range s x) 8 rest) e
 
 -- ---- 8
 

@@ -1,4 +1,4 @@
--- Document 02, cards 6 and 8: a candidate is a full block, one value, two regions, or a tree; the regions come from a line or from a mask.
+-- Document 02, card 6: a candidate is a full block, one value, or two regions; the regions come from a line or from a mask.
 use Rattle.std.specs.Prelude.{ℕ, ◌+◌, ◌*◌, ◌/◌, ◌%◌, Bool, cond, not, ◌&&◌, ◌||◌, List, ltb, eqb, ℤ, pos, ◌-ℤ◌, ◌*ℤ◌}
 use Rattle.std.specs.Int.Signed.{lt_z}
 use Rattle.model.specs.declared.Block.{Block}
@@ -6,10 +6,9 @@ use Rattle.model.specs.declared.Point.{Point}
 use Rattle.model.specs.declared.Split.{Split}
 use Rattle.model.specs.declared.Split.TheVariants.{Line, Mask}
 use Rattle.model.specs.declared.Candidate.{Candidate}
-use Rattle.model.specs.declared.Candidate.TheVariants.{Full, Flat, Regions, Tree}
+use Rattle.model.specs.declared.Candidate.TheVariants.{Full, Flat, Regions}
 use Rattle.model.specs.Lists.{list_of}
 use Rattle.model.specs.Marks.{mark_at}
-use Rattle.model.specs.Trees.{tree_filled}
 
 -- ---- the block that a candidate stands for
 
@@ -28,12 +27,11 @@ unfoldable pub in_region1 : ℕ → Split → List ℕ → ℕ → Bool
 in_region1 w (Line start end) bits i = lt_z (pos 0) (cross start end (i / w) (i % w))
 in_region1 w Mask bits i = eqb (mark_at bits i) 1
 
--- The depths of the block so filled, in row order. A full block's depths, a mask's bits and a tree's bytes are the bytes that are lent beside.
+-- The depths of the block so filled, in row order. A full block's depths and a mask's bits are the bytes that are lent beside.
 unfoldable pub filled : Block → Candidate → List ℕ → List ℕ
 filled b Full bytes = bytes
 filled b (Flat depth) bytes = list_of (λ i. depth) (positions b)
 filled b (Regions value0 value1 split) bytes = list_of (λ i. cond (in_region1 b.width split bytes i) value1 value0) (positions b)
-filled b Tree bytes = tree_filled b.width bytes
 
 -- ---- the lines that are taken
 

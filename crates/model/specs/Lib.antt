@@ -6,7 +6,6 @@ pub mod Marks
 pub mod Combined
 pub mod Planes
 pub mod Fresh
-pub mod Trees
 pub mod Candidates
 pub mod Blocks
 pub mod Journals

@@ -1,5 +1,5 @@
 -- What each entry promises of its reply and of every plane it is lent: one record an entry.
-use Rattle.std.specs.Prelude.{ℕ, ◌*◌, ◌≤◌, ◌≡◌, true, false, cond, List, ℤ, pos, ◌+ℤ◌, nat_abs, get_or}
+use Rattle.std.specs.Prelude.{ℕ, ◌*◌, ◌≤◌, ◌≡◌, true, false, cond, List, ℤ, pos, ◌+ℤ◌, nat_abs, length, get_or}
 use Rattle.model.specs.declared.Settings.{Settings}
 use Rattle.model.specs.declared.Block.{Block}
 use Rattle.model.specs.declared.Candidate.{Candidate}
@@ -65,11 +65,11 @@ pub record Sound (s : Settings) (p : Pictures) (d : Depths) (h : Held) : Type 0 
 -- elsewhere it is undecided, and 8 is judged by it.
 pub record GetPost (s : Settings) (p : Pictures) (d : Depths) (h : Held) (v : ℕ) (b : Block) (c : Candidate) (x : List ℕ) (r : Trial) : Type 0 where
   pub found : ℤ
-  pub number : number_of r.refusal ≡ call_number s p d h v b c x found
+  pub number : number_of r.refusal ≡ call_number s p d h v b c (length x) found
   pub refused : (number_of r.refusal ≡ 0 → ⊥) → r.change ≡ pos 0
   pub change : number_of r.refusal ≡ 0 → r.change ≡ found
-  pub decided : early_number s p d h v b c x ≡ 0 → Sound s p d (read_held h) → found ≡ change_of s p d v b (filled b c x)
-  pub change_in_range : early_number s p d h v b c x ≡ 0 → Sound s p d (read_held h) → in_range s found ≡ true
+  pub decided : early_number s p d h v b c (length x) ≡ 0 → Sound s p d (read_held h) → found ≡ change_of s p d v b (filled b c x)
+  pub change_in_range : early_number s p d h v b c (length x) ≡ 0 → Sound s p d (read_held h) → in_range s found ≡ true
 
 -- What an accepted SET or TAKE BACK leaves of the held planes, whatever they held. `own` names the own view's planes, `combined` the combined picture; nothing else
 -- changes, and of these no row outside the block. Their rows in the block are decided where the session is sound (`held` and `read` of EditPost) and undecided
@@ -108,8 +108,8 @@ pub record EditPost (s : Settings) (p : Pictures) (d₀ d : Depths) (h₀ h : He
 -- stood there. j₀ is the journal at entry, j at exit.
 pub record SetPost (s : Settings) (p : Pictures) (d₀ d : Depths) (h₀ h : Held) (j₀ j : List ℕ) (v : ℕ) (b : Block) (c : Candidate) (x : List ℕ) (r : Edited) : Type 0 where
   pub found : ℤ
-  pub number : number_of r.refusal ≡ set_number s p d₀ h₀ j₀ v b c x found
-  pub edit : EditPost s p d₀ d h₀ h v b (filled b c x) (early_number s p d₀ h₀ v b c x) found r
+  pub number : number_of r.refusal ≡ set_number s p d₀ h₀ j₀ v b c (length x) found
+  pub edit : EditPost s p d₀ d h₀ h v b (filled b c x) (early_number s p d₀ h₀ v b c (length x)) found r
   pub refused_journal : (number_of r.refusal ≡ 0 → ⊥) → j ≡ j₀
   pub journal : number_of r.refusal ≡ 0 → j ≡ saved j₀ v b (old_depths s v b d₀)
 

@@ -6,7 +6,7 @@ use Rattle.model.specs.declared.Block.{Block}
 use Rattle.model.specs.declared.Refusal.{Refusal}
 use Rattle.model.specs.declared.Split.TheVariants.{Line, Mask}
 use Rattle.model.specs.declared.Candidate.{Candidate}
-use Rattle.model.specs.declared.Candidate.TheVariants.{Full, Flat, Regions, Tree}
+use Rattle.model.specs.declared.Candidate.TheVariants.{Full, Flat, Regions}
 use Rattle.model.specs.declared.Report.{Report}
 use Rattle.model.specs.declared.Count.{Count}
 use Rattle.model.specs.Row.{greatest}
@@ -15,7 +15,6 @@ use Rattle.model.specs.Combined.{worst}
 use Rattle.model.specs.Planes as planes
 use Rattle.model.specs.Planes.{Pictures, Depths, Held, Strip, area}
 use Rattle.model.specs.Candidates.{positions, line_ok}
-use Rattle.model.specs.Trees.{square_ok, is_tree}
 use Rattle.model.specs.Journals.{newest, index_before, record_view, record_block, record_depths, record_size, record_end, next_index}
 
 -- the number of a refusal, 0 where the call is accepted
@@ -34,8 +33,6 @@ number_of Refusal.NothingToTakeBack = 12
 number_of Refusal.Journal = 13
 number_of Refusal.Line = 14
 number_of Refusal.Mask = 15
-number_of Refusal.Side = 16
-number_of Refusal.Tree = 17
 number_of Refusal.Gap = 20
 number_of Refusal.Sample = 21
 
@@ -110,24 +107,12 @@ abbrev pub view_ok : ℕ → Bool
 view_ok v = leb v 1
 
 -- 7: a full block's bytes other than width × height; 14: a line's point inside or outside the border, or a shared side; 15: mask bytes other than
--- (area + 7) div 8; one value has no number of its own. Of the bytes that are lent these kinds look at the number n alone.
-unfoldable pub count_then : Block → Candidate → ℕ → ℕ → ℕ
-count_then b Full n rest = unless (eqb n (positions b)) 7 rest
-count_then b (Flat depth) n rest = rest
-count_then b (Regions value0 value1 (Line start end)) n rest = unless (line_ok b start end) 14 rest
-count_then b (Regions value0 value1 Mask) n rest = unless (eqb n (mark_bytes (positions b))) 15 rest
-count_then b Tree n rest = rest
-
--- 16: a tree's block not square with a side of 4, 8, 16, 32 or 64; 17: bytes that aren't exactly one tree
-unfoldable pub tree_then : Block → Candidate → List ℕ → ℕ → ℕ
-tree_then b Full bytes rest = rest
-tree_then b (Flat depth) bytes rest = rest
-tree_then b (Regions value0 value1 split) bytes rest = rest
-tree_then b Tree bytes rest = unless (square_ok b) 16 (unless (is_tree b.width bytes) 17 rest)
-
--- the candidate's own numbers: every kind has its own in one of the two
-unfoldable pub candidate_then : Block → Candidate → List ℕ → ℕ → ℕ
-candidate_then b c bytes rest = count_then b c (length bytes) (tree_then b c bytes rest)
+-- (area + 7) div 8; one value has no number of its own. n is the number of bytes lent.
+unfoldable pub candidate_then : Block → Candidate → ℕ → ℕ → ℕ
+candidate_then b Full n rest = unless (eqb n (positions b)) 7 rest
+candidate_then b (Flat depth) n rest = rest
+candidate_then b (Regions value0 value1 (Line start end)) n rest = unless (line_ok b start end) 14 rest
+candidate_then b (Regions value0 value1 Mask) n rest = unless (eqb n (mark_bytes (positions b))) 15 rest
 
 -- 8: held total plus change below 0 or above 1,046,529 × w × h
 abbrev pub within : ℤ → ℕ → Bool
@@ -174,9 +159,9 @@ unfoldable pub common_then : Settings → Pictures → Depths → Held → ℕ �
 common_then s p d h rest =
     unless (size_ok s) 1 (unless (planes_sized s p d h) 2 (unless (tables_ok s) 3 (unless (share_ok s) 4 (unless (tear_ok s.tear) 20 rest))))
 
--- 6, 5, the candidate's own numbers, then the rest; x are the bytes lent with the candidate
-unfoldable pub own_then : Settings → ℕ → Block → Candidate → List ℕ → ℕ → ℕ
-own_then s v b c x rest = unless (view_ok v) 6 (unless (block_ok s b) 5 (candidate_then b c x rest))
+-- 6, 5, the candidate's own number, then the rest; n is the number of bytes lent with the candidate
+unfoldable pub own_then : Settings → ℕ → Block → Candidate → ℕ → ℕ → ℕ
+own_then s v b c n rest = unless (view_ok v) 6 (unless (block_ok s b) 5 (candidate_then b c n rest))
 
 -- 13, then 11: what SET tests of the journal for block b
 unfoldable pub saving_then : Settings → Block → List ℕ → ℕ → ℕ
@@ -194,20 +179,20 @@ open_number s p d h j = common_then s p d h (unless (words_ok j) 13 (unless (pic
 abbrev pub check_number : Settings → Pictures → Depths → Held → ℕ
 check_number s p d h = common_then s p d h 0
 
--- GET and SET refuse 1, 2, 3, 4, 20, 6, 5, by the candidate's kind 7, 14, 15 or 16 and 17, then 8, which is judged by the change that was found; SET has the rest of its list.
-abbrev pub call_then : Settings → Pictures → Depths → Held → ℕ → Block → Candidate → List ℕ → ℤ → ℕ → ℕ
-call_then s p d h v b c x change rest = common_then s p d h (own_then s v b c x (unless (in_range s change) 8 rest))
+-- GET and SET refuse 1, 2, 3, 4, 20, 6, 5, by the candidate's kind 7, 14 or 15, then 8, which is judged by the change that was found; SET has the rest of its list.
+abbrev pub call_then : Settings → Pictures → Depths → Held → ℕ → Block → Candidate → ℕ → ℤ → ℕ → ℕ
+call_then s p d h v b c n change rest = common_then s p d h (own_then s v b c n (unless (in_range s change) 8 rest))
 
-abbrev pub call_number : Settings → Pictures → Depths → Held → ℕ → Block → Candidate → List ℕ → ℤ → ℕ
-call_number s p d h v b c x change = call_then s p d h v b c x change 0
+abbrev pub call_number : Settings → Pictures → Depths → Held → ℕ → Block → Candidate → ℕ → ℤ → ℕ
+call_number s p d h v b c n change = call_then s p d h v b c n change 0
 
 -- SET has 8, 13, 11 at its end.
-abbrev pub set_number : Settings → Pictures → Depths → Held → List ℕ → ℕ → Block → Candidate → List ℕ → ℤ → ℕ
-set_number s p d h j v b c x change = call_then s p d h v b c x change (saving_then s b j 0)
+abbrev pub set_number : Settings → Pictures → Depths → Held → List ℕ → ℕ → Block → Candidate → ℕ → ℤ → ℕ
+set_number s p d h j v b c n change = call_then s p d h v b c n change (saving_then s b j 0)
 
 -- what both refuse before 8
-abbrev pub early_number : Settings → Pictures → Depths → Held → ℕ → Block → Candidate → List ℕ → ℕ
-early_number s p d h v b c x = common_then s p d h (own_then s v b c x 0)
+abbrev pub early_number : Settings → Pictures → Depths → Held → ℕ → Block → Candidate → ℕ → ℕ
+early_number s p d h v b c n = common_then s p d h (own_then s v b c n 0)
 
 -- TAKE BACK refuses 1, 2, 3, 4, 20, 13, 12, then 8, and before 8 the same.
 abbrev pub take_back_number : Settings → Pictures → Depths → Held → List ℕ → ℤ → ℕ

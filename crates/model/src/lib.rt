@@ -50,7 +50,7 @@ pub enum Split {
     Mask,
 }
 
-// What a block is filled with: its depths one by one, which are lent beside; one depth; two regions with a depth each; or a tree, whose bytes are lent beside.
+// What a block is filled with: its depths one by one, which are lent beside; one depth; or two regions with a depth each.
 #[derive(Drop)]
 pub enum Candidate {
     Full,
@@ -60,7 +60,6 @@ pub enum Candidate {
         value1: u8,
         split: Split,
     },
-    Tree,
 }
 
 // The kind of a pair of neighbouring columns.
@@ -96,8 +95,6 @@ pub enum Refusal {
     Journal,
     Line,
     Mask,
-    Side,
-    Tree,
     Gap,
     Sample,
 }
@@ -159,8 +156,6 @@ pub fn number(refusal: Refusal) -> u32
         Refusal::Journal => 13,
         Refusal::Line => 14,
         Refusal::Mask => 15,
-        Refusal::Side => 16,
-        Refusal::Tree => 17,
         Refusal::Gap => 20,
         Refusal::Sample => 21,
     }

@@ -7,6 +7,7 @@ use Prim.Native.Nat.{ℕ}
 use mathlib.Core.Path.{◌≡◌, refl, sym, ap, ◌∙◌}
 use mathlib.Core.List.{List}
 use lib.IntN.{pos, ◌-ℤ◌, +ℤ_invr}
+use lib.ListN.{length}
 use borrow.Author.Tests.{eq-eqb}
 use Rattle.model.specs.declared.Settings.{Settings}
 use Rattle.model.specs.declared.Block.{Block}
@@ -51,7 +52,7 @@ module _ (s : Settings) (p : Pictures) (d : Depths) (h : Held) (v : ℕ) (b : Bl
   pub get_no_op : (t : Trial) → GetPost s p d h v b c x t → Sound s p d (read_held h) → number_of t.refusal ≡ 0 → t.change ≡ pos 0
   get_no_op t post sound z =
       let e = get_early s p d h v b c x post z in
-      post.change z ∙ post.decided e sound ∙ no_change (plain s p d) (early_facts s p d h v b c x e).0.depths v b has
+      post.change z ∙ post.decided e sound ∙ no_change (plain s p d) (early_facts s p d h v b c (length x) e).0.depths v b has
 
   pub set_no_op : (e : Depths) (g : Held) (j k : List ℕ) (t : Edited) → SetPost s p d e h g j k v b c x t → Sound s p d h → number_of t.refusal ≡ 0 → (t.change ≡ pos 0) × (leaves t.settings e g ≡ leaves s d h)
   set_no_op e g j k t post sound z =

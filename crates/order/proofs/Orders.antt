@@ -10,6 +10,7 @@ use mathlib.Core.List.Permᴰ
 use mathlib.Core.List.{List, [], ◌∷◌}
 use lib.Dec.{eqb}
 use lib.IntN.{ℤ, pos, ◌+ℤ◌, ◌-ℤ◌, +ℤ_comm, +ℤ_idr, +ℤ_invr}
+use lib.ListN.{length}
 use borrow.Author.Tests.{eq-eqb, ne_eqb, eqb-true, eqb-false}
 use Rattle.model.specs.declared.Settings.{Settings}
 use Rattle.model.specs.declared.Block.{Block}
@@ -43,11 +44,11 @@ unfolding plain_state
 sound_state p st h = rw (← h.held, ← h.total)
 
 module _ (s : Settings) (p : Pictures) (d e : Depths) (h g : Held) (j k : List ℕ) (v : ℕ) (b : Block) (c : Candidate) (x : List ℕ) (t : Edited) (post : SetPost s p d e h g j k v b c x t) (accepted : number_of t.refusal ≡ 0) (sound : Sound s p d h) where
-  early : early_number s p d h v b c x ≡ 0
+  early : early_number s p d h v b c (length x) ≡ 0
   early = set_early s p d h v b c x post accepted
 
   pub tested : Common s p d h
-  tested = (early_facts s p d h v b c x early).0
+  tested = (early_facts s p d h v b c (length x) early).0
 
   pub set_state : leaves t.settings e g ≡ plain_state (plain s p (written s v b (filled b c x) d))
   unfolding plain_state

@@ -11,6 +11,7 @@ use mathlib.Core.Logic.{⊎_elim, ◌⊎◌, inl, inr}
 use mathlib.Core.List.{List}
 use native.Mathlib.Omega.{arith}
 use native.Mathlib.Nat.{le_refl, le_trans, mul-one}
+use lib.ListN.{length}
 use lib.IntN.{ℤ, pos, negsuc, ◌-ℤ◌, nat_abs}
 use lib.Signed.{le_z}
 use borrow.Author.Tests.{lt-ltb, le-ltb}
@@ -141,8 +142,8 @@ module _ (s : Settings) (p : Pictures) (d : Depths) (v : ℕ) (b : Block) (c : L
 -- ---- GET and SET
 
 module _ (s : Settings) (p : Pictures) (d : Depths) (h : Held) (v : ℕ) (b : Block) (c : Candidate) (x : List ℕ) where
-  early_within : early_number s p d h v b c x ≡ 0 → OneDepth b → nat_abs (change_of s p d v b (filled b c x)) ≤ reach_of s d v b (filled b c x)
-  early_within e one = let f = early_facts s p d h v b c x e in change_within s p d v b (filled b c x) f.0.depths f.0.share f.1.block one
+  early_within : early_number s p d h v b c (length x) ≡ 0 → OneDepth b → nat_abs (change_of s p d v b (filled b c x)) ≤ reach_of s d v b (filled b c x)
+  early_within e one = let f = early_facts s p d h v b c (length x) e in change_within s p d v b (filled b c x) f.0.depths f.0.share f.1.block one
 
   pub get_within : (r : Trial) → GetPost s p d h v b c x r → Sound s p d (read_held h) → number_of r.refusal ≡ 0 → OneDepth b → nat_abs r.change ≤ reach_of s d v b (filled b c x)
   get_within r post sound z one =

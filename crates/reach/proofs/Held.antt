@@ -193,7 +193,7 @@ pub get_held :
     (s : Settings) (p : Pictures) (d : Depths) (h : Held) (v : ℕ) (b : Block) (c : Candidate) (x : List ℕ) (r : Trial) → GetPost s p d h v b c x r → Sound s p d (read_held h) →
     number_of r.refusal ≡ 0 → OneDepth b → nat_abs r.change ≤ most_change (held_length s (is_right v) b d h (get_or (filled b c x) 0 0))
 get_held s p d h v b c x r post sound z one =
-    let f = early_facts s p d h v b c x (get_early s p d h v b c x post z) in
+    let f = early_facts s p d h v b c (length x) (get_early s p d h v b c x post z) in
     subst (λ (l : ℤ). nat_abs r.change ≤ most_change l)
     (length-held s p d h v b (filled b c x) f.0.depths f.0.tables f.1.block one sound)
     (get_within s p d h v b c x r post sound z one)

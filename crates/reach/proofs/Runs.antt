@@ -4,6 +4,7 @@
 use Prim.Native.Nat.{ℕ, ◌≤◌}
 use mathlib.Core.Path.{◌≡◌, refl}
 use mathlib.Core.List.{List}
+use lib.ListN.{length}
 use lib.IntN.{nat_abs}
 use borrow.Author.Tests.{eq-eqb}
 use Rattle.model.specs.declared.Settings.{Settings}
@@ -31,12 +32,12 @@ use Rattle.reach.proofs.Change.{change_within}
 -- a call whose number by the record is n, the numbers of a GET or SET with some rest of its list
 answer_within :
     (r : Plain) → Ready r → (v : ℕ) (b : Block) (c : Candidate) (x : List ℕ) (rest : ℕ) →
-    let n : ℕ = own_then r.settings v b c x rest in
+    let n : ℕ = own_then r.settings v b c (length x) rest in
     n ≡ 0 → OneDepth b → nat_abs (plain_answer n (change_of r.settings r.pictures r.depths v b (filled b c x))).change ≤ reach_of r.settings r.depths v b (filled b c x)
 unfolding plain_answer
 answer_within r ok v b c x rest z one =
     rw (eq-eqb _ 0 z)
-    (change_within r.settings r.pictures r.depths v b (filled b c x) ok.depths ok.share (set_own r.settings v b c x rest z).block one)
+    (change_within r.settings r.pictures r.depths v b (filled b c x) ok.depths ok.share (set_own r.settings v b c (length x) rest z).block one)
 
 -- ---- document 01's runs
 

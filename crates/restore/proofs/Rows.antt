@@ -18,7 +18,7 @@ use Rattle.model.specs.Lists.{row_of}
 use Rattle.model.specs.declared.Candidate.TheVariants.{Full}
 use Rattle.model.specs.Planes.{View}
 use Rattle.model.specs.Candidates.{filled}
-use Rattle.model.specs.Refusals.{count_then, tree_then, candidate_then}
+use Rattle.model.specs.Refusals.{candidate_then}
 use Rattle.model.specs.Blocks.{in_rows, written_plane}
 use Rattle.model.specs.Span.{first_column}
 use Rattle.model.proofs.Choice.{lt_or_le}
@@ -88,8 +88,8 @@ module _ {w h : ℕ} {b : Block} {words room : List ℕ} {done left n : ℕ} (fi
   size : length (take (n * b.width) room) ≡ b.width * n
   size = length-take-le (n * b.width) room next.holds ∙ mul_comm n b.width
 
-  pub part_requires : (BlockIn w h (below b done n) (filled (below b done n) Full (take (n * b.width) room))) × (candidate_then (below b done n) Full (take (n * b.width) room) 0 ≡ 0)
-  unfolding filled candidate_then count_then tree_then
+  pub part_requires : (BlockIn w h (below b done n) (filled (below b done n) Full (take (n * b.width) room))) × (candidate_then (below b done n) Full (length (take (n * b.width) room)) 0 ≡ 0)
+  unfolding filled candidate_then
   part_requires = (
     record { some = fits.some; right = fits.right; below = omega (arith, fits.bottom, next.few); size = size },
     rw (eq-eqb (length (take (n * b.width) room)) (b.width * n) size) refl,

@@ -102,8 +102,8 @@ settled {f = f} a t rest h =
     (λ z. let ne = eqb-false (f 0) 0 z in a.stays (unless t 8 rest) ne ∙ sym (a.stays rest ne))
 
 -- an accepted SET has passed its own tests
-pub set_own : (s : Settings) (v : ℕ) (b : Block) (c : Candidate) (x : List ℕ) (rest : ℕ) → own_then s v b c x rest ≡ 0 → OwnTests s v b c x
-set_own s v b c x rest e = own_facts s v b c x (passed (own_before s v b c x) rest e)
+pub set_own : (s : Settings) (v : ℕ) (b : Block) (c : Candidate) (n rest : ℕ) → own_then s v b c n rest ≡ 0 → OwnTests s v b c n
+set_own s v b c n rest e = own_facts s v b c n (passed (own_before s v b c n) rest e)
 
 -- ---- a call, as the plain record has it
 
@@ -220,15 +220,15 @@ module _ (r : Plain) (ok : Ready r) where
   -- ---- the numbers of GET and SET
 
   module _ (v : ℕ) (b : Block) (c : Candidate) (x : List ℕ) where
-    early : early_number S p d F v b c x ≡ own_then s v b c x 0
-    early = ready_common r ok _ _ ∙ own_total s _ v b c x 0
+    early : early_number S p d F v b c (length x) ≡ own_then s v b c (length x) 0
+    early = ready_common r ok _ _ ∙ own_total s _ v b c (length x) 0
 
     call :
-        (k : ℤ) (rest : ℕ) → (early_number S p d F v b c x ≡ 0 → Sound S p d (read_held F) → in_range S k ≡ true) →
-        call_then S p d F v b c x k rest ≡ own_then s v b c x rest
+        (k : ℤ) (rest : ℕ) → (early_number S p d F v b c (length x) ≡ 0 → Sound S p d (read_held F) → in_range S k ≡ true) →
+        call_then S p d F v b c (length x) k rest ≡ own_then s v b c (length x) rest
     call k rest h =
-        ready_common r ok _ _ ∙ own_total s _ v b c x _
-        ∙ settled (own_before s v b c x) (in_range S k) rest (λ e. h (early ∙ e) sound_as_read)
+        ready_common r ok _ _ ∙ own_total s _ v b c (length x) _
+        ∙ settled (own_before s v b c (length x)) (in_range S k) rest (λ e. h (early ∙ e) sound_as_read)
 
   -- ---- what SET and TAKE BACK have in common; n is the number by the plain record
 
@@ -265,7 +265,7 @@ module _ (r : Plain) (ok : Ready r) where
 
     pub get_done :
         (v : ℕ) (b : Block) (c : Candidate) (x : List ℕ) (t : Trial) → GetPost st.settings q st.depths st.held v b c x t →
-        Done r r (own_then s v b c x 0) (change_of s p d v b (filled b c x)) J J (record { reply = reply_of t.refusal t.change; after = st; journal = j })
+        Done r r (own_then s v b c (length x) 0) (change_of s p d v b (filled b c x)) J J (record { reply = reply_of t.refusal t.change; after = st; journal = j })
     unfolding plain_state
     get_done v b c x t post =
         let h = carried (λ (p : Pictures) (y : State) (j : List ℕ). GetPost y.settings p y.depths y.held v b c x t) post in
@@ -284,11 +284,11 @@ module _ (r : Plain) (ok : Ready r) where
 
     pub set_done :
         (v : ℕ) (b : Block) (c : Candidate) (x : List ℕ) (t : Edited) (e : Depths) (g : Held) (k : List ℕ) → SetPost st.settings q st.depths e st.held g j k v b c x t →
-        Done r (edited r v b (filled b c x)) (own_then s v b c x (saving_then s b J 0)) (change_of s p d v b (filled b c x)) J (saved J v b (old_depths s v b d)) (record { reply = reply_of t.refusal t.change; after = leaves t.settings e g; journal = k })
+        Done r (edited r v b (filled b c x)) (own_then s v b c (length x) (saving_then s b J 0)) (change_of s p d v b (filled b c x)) J (saved J v b (old_depths s v b d)) (record { reply = reply_of t.refusal t.change; after = leaves t.settings e g; journal = k })
     unfolding plain_state
     set_done v b c x t e g k post =
         let h = carried (λ (p : Pictures) (y : State) (j : List ℕ). SetPost y.settings p y.depths e y.held g j k v b c x t) post in
-        let n = h.number ∙ call v b c x h.found _ h.edit.change_in_range ∙ ap (own_then s v b c x) (saving_sides S s b J 0 refl refl) in
+        let n = h.number ∙ call v b c x h.found _ h.edit.change_in_range ∙ ap (own_then s v b c (length x)) (saving_sides S s b J 0 refl refl) in
         edit v b (filled b c x) _ _ t e g h.edit (set_early S p d F v b c x h)
         _ n J _ k h.refused_journal h.journal
 

@@ -28,10 +28,10 @@ use Rattle.run.proofs.Calls.{fill_ready, fill_leaves, chosen, next_pictures, eit
 -- the numbers of a call, by the record
 call_usual : (r : Plain) (k : Call) → Usual k (plain_number r k)
 unfolding plain_number saving_then
-call_usual r (get v b c x) = own_usual r.settings v b c x
+call_usual r (get v b c x) = own_usual r.settings v b c (length x)
 call_usual r (set v b c x j) =
     let U : ℕ → Type 0 = Usual (set v b c x j) in
-    either U (own_before r.settings v b c x) (saving_then r.settings b j 0) (inl (own_usual r.settings v b c x))
+    either U (own_before r.settings v b c (length x)) (saving_then r.settings b j 0) (inl (own_usual r.settings v b c (length x)))
     (unless_either U (journal_ok r.settings j) 13 _ (inr (inl refl)) (unless_either U (room_ok b j) 11 0 (inr (inr refl)) (inl (inl refl))))
 call_usual r (move to reference j) = move_usual (Usual (move to reference j)) (λ n u. inl u) r.settings to reference j (λ t. inr refl)
 
@@ -81,7 +81,7 @@ go r ok (got {v = v} {b = b} {c = c} {x = x} t h k) p e =
     more r (get v b c x) f refl e (go _ (done_ready f ok) k (same_pictures r (get v b c x) p p) (done_after f))
 go r ok (wrote {v = v} {b = b} {c = c} {x = x} {j = j} t d' h' j' h k) p e =
     let f = set_done r ok j p e refl v b c x t d' h' j' h in
-    more r (set v b c x j) f (done_journal f) (edit_kept r ok v b (filled b c x) f (λ z. (set_own r.settings v b c x _ z).block))
+    more r (set v b c x j) f (done_journal f) (edit_kept r ok v b (filled b c x) f (λ z. (set_own r.settings v b c (length x) _ z).block))
     (go _ (done_ready f ok) k (same_pictures r (set v b c x j) p p) (done_after f))
 go r ok (moved {to = to} {reference = reference} {j = j} t h' j' h k) p e =
     let f = move_done r ok j p e refl to reference t h' j' h in

@@ -90,10 +90,10 @@ Answers r k e =
 
 call_usual : (r : SharedPlain) (fs : List Found) → Between r fs → (k : SharedCall) → SharedUsual k (shared_number r k)
 unfolding shared_number saving_then taking_then
-call_usual r fs h (get v b c x) = own_usual r.start.settings v b c x
+call_usual r fs h (get v b c x) = own_usual r.start.settings v b c (length x)
 call_usual r fs h (set v b c x) =
     let U : ℕ → Type 0 = SharedUsual (set v b c x) in
-    either U (own_before r.start.settings v b c x) (saving_then r.start.settings b r.journal 0) (inl (own_usual r.start.settings v b c x))
+    either U (own_before r.start.settings v b c (length x)) (saving_then r.start.settings b r.journal 0) (inl (own_usual r.start.settings v b c (length x)))
     (rw (ledger_ok r.start.settings r.start.depths r.journal r.standing h.ledger) (unless_either U (room_ok b r.journal) 11 0 (inr refl) (inl (inl refl))))
 call_usual r fs h take_back =
     rw (ledger_ok r.start.settings r.start.depths r.journal r.standing h.ledger)
@@ -123,8 +123,8 @@ module _ (r : SharedPlain) (fs : List Found) (h : Between r fs) where
       (λ z.
       let s : Settings = r.start.settings in
       let n = sym f.number ∙ z in
-      let own = set_own s v b c x (saving_then s b r.journal 0) n in
-      let room = unless_true (room_ok b r.journal) 10 0 (unless_rest (journal_ok s r.journal) 12 _ (rest_passed (own_before s v b c x) (saving_then s b r.journal 0) n)) in
+      let own = set_own s v b c (length x) (saving_then s b r.journal 0) n in
+      let room = unless_true (room_ok b r.journal) 10 0 (unless_rest (journal_ok s r.journal) 12 _ (rest_passed (own_before s v b c (length x)) (saving_then s b r.journal 0) n)) in
       let eight = subst EightBit (ap (λ (y : State). y.depths) (f.after z)) bytes in
       record {
         stacked = rw (eq-eqb e.reply.number 0 z) ((refl, f.change z), h.stacked);
@@ -264,7 +264,7 @@ go r fs h (got {v = v} {b = b} {c = c} {x = x} t post k) p e i =
 go r fs h (wrote {v = v} {b = b} {c = c} {x = x} t d' h' j' post k) p e i =
     let f = set_done (stands_as r) (ready_now h) r.journal p e i v b c x t d' h' j' post in
     let call : SharedCall = set v b c x in
-    more r call f fs h (edit_kept (stands_as r) (ready_now h) v b (filled b c x) f (λ z. (set_own r.start.settings v b c x _ z).block)) tt
+    more r call f fs h (edit_kept (stands_as r) (ready_now h) v b (filled b c x) f (λ z. (set_own r.start.settings v b c (length x) _ z).block)) tt
     (go _ _ (set_between r fs h v b c x _ f post.edit.eight_bit) k (same_pictures r call f p refl) (after_next r call f) (journal_next r call f))
 go r fs h (took t d' h' j' post k) p e i =
     let s : Settings = r.start.settings in

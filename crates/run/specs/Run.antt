@@ -91,8 +91,8 @@ move_number s to reference j =
 
 -- 1 to 4, 20 and 8 never apply to GET or SET, so that 6, 5 and the candidate's own number are left; then 13 and 11 go by the journal passed.
 unfoldable pub plain_number : Plain → Call → ℕ
-plain_number r (get v b c x) = own_then r.settings v b c x 0
-plain_number r (set v b c x j) = own_then r.settings v b c x (saving_then r.settings b j 0)
+plain_number r (get v b c x) = own_then r.settings v b c (length x) 0
+plain_number r (set v b c x j) = own_then r.settings v b c (length x) (saving_then r.settings b j 0)
 plain_number r (move to reference j) = move_number r.settings to reference j
 
 -- What an accepted call makes of the record. GET: it stays. SET: the block that the candidate stands for stays written. MOVE: the depths stay.
@@ -195,7 +195,7 @@ AllKept before ks es = AllBy (λ (st : State) k e. e.after) Kept before ks es
 
 -- The numbers that occur: a call's own, SET's of the journal, and MOVE's. 1 and 8 never do.
 abbrev pub OfCall : ℕ → Type 0
-OfCall n = (n ≡ 0) ⊎ ((n ≡ 5) ⊎ ((n ≡ 6) ⊎ ((n ≡ 7) ⊎ ((n ≡ 14) ⊎ ((n ≡ 15) ⊎ ((n ≡ 16) ⊎ (n ≡ 17)))))))
+OfCall n = (n ≡ 0) ⊎ ((n ≡ 5) ⊎ ((n ≡ 6) ⊎ ((n ≡ 7) ⊎ ((n ≡ 14) ⊎ (n ≡ 15)))))
 
 abbrev pub OfMove : ℕ → Type 0
 OfMove n = (n ≡ 0) ⊎ ((n ≡ 2) ⊎ ((n ≡ 3) ⊎ ((n ≡ 4) ⊎ ((n ≡ 20) ⊎ (n ≡ 21)))))

@@ -1,6 +1,6 @@
 -- Document 02, card 3, with MOVE among the calls (card 11): a run whose calls other than GET, its OPEN first, are all passed one journal that nothing else writes. It
 -- is judged by the SETs still standing; TAKE BACK is one of its calls, and each accepted one strikes the newest SET standing. After an accepted MOVE none stands.
-use Rattle.std.specs.Prelude.{ℕ, ◌≡◌, cond, List, [], ◌∷◌, ◌⊎◌, ℤ, pos, ◌-ℤ◌, eqb}
+use Rattle.std.specs.Prelude.{ℕ, ◌≡◌, cond, List, [], ◌∷◌, ◌⊎◌, ℤ, pos, ◌-ℤ◌, length, eqb}
 use Rattle.model.specs.declared.Settings.{Settings}
 use Rattle.model.specs.declared.Block.{Block}
 use Rattle.model.specs.declared.Candidate.{Candidate}
@@ -85,8 +85,8 @@ stands_as r = with_standing r.start r.standing
 
 -- 1 and 8 never apply, and 2 to 4, 20 and 21 only to MOVE; 13, 11 and 12 go by the record's journal.
 unfoldable pub shared_number : SharedPlain → SharedCall → ℕ
-shared_number r (get v b c x) = own_then r.start.settings v b c x 0
-shared_number r (set v b c x) = own_then r.start.settings v b c x (saving_then r.start.settings b r.journal 0)
+shared_number r (get v b c x) = own_then r.start.settings v b c (length x) 0
+shared_number r (set v b c x) = own_then r.start.settings v b c (length x) (saving_then r.start.settings b r.journal 0)
 shared_number r take_back = taking_then r.start.settings r.journal 0
 shared_number r (move to reference) = move_number r.start.settings to reference r.journal
 

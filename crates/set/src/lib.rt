@@ -69,7 +69,7 @@ pub fn set(
         view,
         block,
         candidate,
-        bytes,
+        bytes.len(),
     );
     if model::number(first) != 0 {
         return Edited {

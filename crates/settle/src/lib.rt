@@ -1,5 +1,5 @@
 // A candidate tried in a view, judged, and written where it is accepted.
-ghost use Rattle.std.specs.Prelude.{◌≡◌, true, ◌≤◌};
+ghost use Rattle.std.specs.Prelude.{◌≡◌, true, ◌≤◌, length};
 ghost use Rattle.model.specs.Planes as planes;
 ghost use Rattle.model.specs.Candidates.{filled};
 ghost use Rattle.model.specs.Blocks.{block_depths, old_depths};
@@ -45,7 +45,7 @@ fn settle(
     requires table_value { (table_ok table.now ≡ true) × (share ≤ 64) }
     requires sized { Sized w h (around right share tolerance samples2.now fronts2.now marks2.now combined.old reference.now) (own tear table.now texture.now depths.old limits.old) }
     requires sized_2 { commit.Sized w h texture.now depths.old (planes.view samples.old fronts.old limits.old marks.old) }
-    requires fits { (Fits w h block (filled block candidate bytes.now)) × (candidate_then block candidate bytes.now 0 ≡ 0) }
+    requires fits { (Fits w h block (filled block candidate bytes.now)) × (candidate_then block candidate (length bytes.now) 0 ≡ 0) }
     ensures { (OwnSettled tear right table.now share tolerance total w h block (saving_then (sides w h) block journal.old 0) texture.now (filled block candidate bytes.now)
         samples2.now fronts2.now marks2.now reference.now
         depths.old depths.new
@@ -114,7 +114,7 @@ pub fn settle_view<'a>(
         (planes.pictures left.now right.now reference.now)
         (planes.depths leftDepths.old rightDepths.old)
         (held_of leftSamples.old leftFronts.old leftLimits.old leftMarks.old rightSamples.old rightFronts.old rightLimits.old rightMarks.old combined.old)
-        view block candidate bytes.now ≡ 0 }
+        view block candidate (length bytes.now) ≡ 0 }
     ensures { (Settled (settings_of w h leftTable.now rightTable.now share tolerance tear total)
         (planes.pictures left.now right.now reference.now)
         (planes.depths leftDepths.old rightDepths.old)

@@ -4,7 +4,7 @@ ghost use Rattle.shape.specs.Shapes.{candidate_of, lent_of};
 
 use model::{Candidate, Point, Split, Tear};
 
-// A candidate, apart from the bytes that are lent with it. Kind 0 is a full block, 1 one value, 2 a line, 3 a mask and 4 a tree.
+// A candidate, apart from the bytes that are lent with it. Kind 0 is a full block, 1 one value, 2 a line and 3 a mask.
 #[repr(C)]
 #[derive(Drop)]
 pub struct Shape {
@@ -47,9 +47,6 @@ pub fn candidate_of(shape: Shape) -> Candidate
             split: Split::Mask,
         };
     }
-    if shape.kind == 4 {
-        return Candidate::Tree;
-    }
     Candidate::Full
 }
 
@@ -57,7 +54,7 @@ pub fn candidate_of(shape: Shape) -> Candidate
 pub fn lent(kind: u32, n: usize) -> usize
     ensures { (result ≡ lent_of kind n) × (result ≤ n) }
 {
-    if kind <= 4 { n } else { 0 }
+    if kind <= 3 { n } else { 0 }
 }
 
 // The widest gap and the torn distance, which GET is passed one by one.

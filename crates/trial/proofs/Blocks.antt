@@ -22,7 +22,7 @@ use Rattle.model.proofs.Lists.{length-row, rows_apart}
 use Rattle.model.proofs.Sums.{sum_next, sum_most, sum_join, sum_same}
 use Rattle.model.proofs.Views.{length_seen}
 use Rattle.planes.specs.Parts.{block_of}
-use Rattle.fill.specs.Rows.{is_lent, is_whole, RowsMade}
+use Rattle.fill.specs.Rows.{is_lent, RowsMade}
 use Rattle.fill.proofs.Rooms.{made_rows, front_back}
 use Rattle.strips.specs.Strips.{Own, Around, covered, RowTrial}
 use Rattle.trial.specs.Trial.{own_row, around_row, first_of, total_before, total_after, covered_in, BlockHeld, BlockTrial, OwnRowIn, AroundRowIn, Sized, Fits}
@@ -136,9 +136,9 @@ pub candidate_in : {w h : ℕ} {b : Block} {c : List ℕ} → Fits w h b c → (
 candidate_in {w} {h} {b} f i k = omega (arith, f.entries, rows_apart b.width i b.height k)
 
 -- n rows that were made in the room and tried as a block of their own
-module _ {w : ℕ} {o : Around} {v : Own} (b : Block) (c : Candidate) (x room ys : List ℕ) (i n : ℕ) (more : i + n ≤ b.height) (own : is_lent c ≡ false) (parts : is_whole c ≡ false) (holds : n * b.width ≤ length room) (made : RowsMade b.width c x i n (take (n * b.width) room) ys) where
+module _ {w : ℕ} {o : Around} {v : Own} (b : Block) (c : Candidate) (x room ys : List ℕ) (i n : ℕ) (more : i + n ≤ b.height) (own : is_lent c ≡ false) (holds : n * b.width ≤ length room) (made : RowsMade b.width c x i n (take (n * b.width) room) ys) where
   pub block_made : {old new p q : ℕ} → BlockTrial w o v b (filled b c x) i old new → BlockTrial w o v (below b i n) (take (n * b.width) (ys ++ drop (n * b.width) room)) n p q → BlockTrial w o v b (filled b c x) (i + n) (old + p) (new + q)
   block_made r t =
       let e = (front_back room ys (n * b.width) holds made.size).1.1 in
       block_join w o v b (filled b c x) (take (n * b.width) (ys ++ drop (n * b.width) room)) i n more
-      (λ k h. rw e (made_rows b c x (take (n * b.width) room) ys i n more own parts made k h)) r t
+      (λ k h. rw e (made_rows b c x (take (n * b.width) room) ys i n more own made k h)) r t

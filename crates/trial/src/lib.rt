@@ -5,7 +5,7 @@ ghost use Rattle.model.specs.Candidates.{filled};
 ghost use Rattle.model.specs.Refusals.{table_ok, candidate_then};
 ghost use Rattle.planes.specs.Parts.{block_of};
 ghost use Rattle.sums.specs.Squares.{Squares};
-ghost use Rattle.fill.specs.Rows.{is_lent, is_whole};
+ghost use Rattle.fill.specs.Rows.{is_lent};
 ghost use Rattle.strips.specs.Strips.{around, own, RowTrial};
 ghost use Rattle.trial.specs.Trial.{own_row, around_row, OwnRowIn, AroundRowIn, Sized, Fits, BlockTrial};
 
@@ -195,7 +195,7 @@ fn fewer(a: usize, b: usize) -> usize
     if a < b { a } else { b }
 }
 
-// The same for a candidate whose rows are made one by one: as many of them as the room holds, and these are then tried together, as a block of their own.
+// The same for a candidate whose rows are made: as many of them as the room holds, and these are then tried together, as a block of their own.
 fn trial_by_rooms(
     tear: Tear,
     right: bool,
@@ -222,13 +222,13 @@ fn trial_by_rooms(
 ) -> Sums
     requires table_value { (table_ok table.now ≡ true) × (share ≤ 64) }
     requires sized { Sized w h (around right share tolerance samples.now fronts.now marks.now combined.now reference.now) (own tear table.now texture.now depths.now limits.now) }
-    requires fits { (Fits w h (block_of column row width height) (filled (block_of column row width height) candidate bytes.now)) × (candidate_then (block_of column row width height) candidate bytes.now 0 ≡ 0) }
-    requires candidate_value { (is_lent candidate ≡ false) × ((is_whole candidate ≡ false) × ((width ≤ length room.old) × (length room.old ≤ 4096))) }
+    requires fits { (Fits w h (block_of column row width height) (filled (block_of column row width height) candidate bytes.now)) × (candidate_then (block_of column row width height) candidate (length bytes.now) 0 ≡ 0) }
+    requires candidate_value { (is_lent candidate ≡ false) × ((width ≤ length room.old) × (length room.old ≤ 4096)) }
     ensures { BlockTrial w (around right share tolerance samples.now fronts.now marks.now combined.now reference.now)
         (own tear table.now texture.now depths.now limits.now) (block_of column row width height) (filled (block_of column row width height) candidate bytes.now) height result.old result.new }
 {
     let most = room.len() / width;
-    fill::start(candidate, bytes, width, room);
+    fill::start(candidate, room);
     let mut old = 0u64;
     let mut new = 0u64;
     let mut done = 0;
@@ -265,150 +265,7 @@ fn trial_by_rooms(
     Sums { old, new }
 }
 
-// The same for a candidate whose rows are made at once: the room holds them all, and they are tried as a full block's.
-fn trial_whole(
-    tear: Tear,
-    right: bool,
-    table: &[u16; 256],
-    share: u8,
-    tolerance: u8,
-    w: usize,
-    h: usize,
-    column: usize,
-    row: usize,
-    width: usize,
-    height: usize,
-    texture: &[u16],
-    depths: &[u8],
-    limits: &[i16],
-    candidate: Candidate,
-    bytes: &[u8],
-    room: &mut [u8],
-    samples: &[u16],
-    fronts: &[u8],
-    marks: &[u8],
-    combined: &[u16],
-    reference: &[u16],
-) -> Sums
-    requires table_value { (table_ok table.now ≡ true) × (share ≤ 64) }
-    requires sized { Sized w h (around right share tolerance samples.now fronts.now marks.now combined.now reference.now) (own tear table.now texture.now depths.now limits.now) }
-    requires fits { (Fits w h (block_of column row width height) (filled (block_of column row width height) candidate bytes.now)) × (candidate_then (block_of column row width height) candidate bytes.now 0 ≡ 0) }
-    requires candidate_value { (is_whole candidate ≡ true) × ((width * width ≤ length room.old) × (length room.old ≤ 4096)) }
-    ensures { BlockTrial w (around right share tolerance samples.now fronts.now marks.now combined.now reference.now)
-        (own tear table.now texture.now depths.now limits.now) (block_of column row width height) (filled (block_of column row width height) candidate bytes.now) height result.old result.new }
-{
-    let n = width * width;
-    fill::start(candidate, bytes, width, &mut room[..n]);
-    trial_block(
-        tear,
-        right,
-        table,
-        share,
-        tolerance,
-        w,
-        h,
-        column,
-        row,
-        width,
-        height,
-        texture,
-        depths,
-        limits,
-        &room[..n],
-        samples,
-        fronts,
-        marks,
-        combined,
-        reference,
-    )
-}
-
 // The same in a room of its own.
-fn trial_square(
-    tear: Tear,
-    right: bool,
-    table: &[u16; 256],
-    share: u8,
-    tolerance: u8,
-    w: usize,
-    h: usize,
-    column: usize,
-    row: usize,
-    width: usize,
-    height: usize,
-    texture: &[u16],
-    depths: &[u8],
-    limits: &[i16],
-    candidate: Candidate,
-    bytes: &[u8],
-    samples: &[u16],
-    fronts: &[u8],
-    marks: &[u8],
-    combined: &[u16],
-    reference: &[u16],
-) -> Sums
-    requires table_value { (table_ok table.now ≡ true) × (share ≤ 64) }
-    requires sized { Sized w h (around right share tolerance samples.now fronts.now marks.now combined.now reference.now) (own tear table.now texture.now depths.now limits.now) }
-    requires fits { (Fits w h (block_of column row width height) (filled (block_of column row width height) candidate bytes.now)) × (candidate_then (block_of column row width height) candidate bytes.now 0 ≡ 0) }
-    requires candidate_value { is_whole candidate ≡ true }
-    ensures { BlockTrial w (around right share tolerance samples.now fronts.now marks.now combined.now reference.now)
-        (own tear table.now texture.now depths.now limits.now) (block_of column row width height) (filled (block_of column row width height) candidate bytes.now) height result.old result.new }
-{
-    if width <= 16 {
-        let mut room = fill::short_room();
-        return trial_whole(
-            tear,
-            right,
-            table,
-            share,
-            tolerance,
-            w,
-            h,
-            column,
-            row,
-            width,
-            height,
-            texture,
-            depths,
-            limits,
-            candidate,
-            bytes,
-            &mut room[..],
-            samples,
-            fronts,
-            marks,
-            combined,
-            reference,
-        );
-    }
-    let mut room = fill::long_room();
-    trial_whole(
-        tear,
-        right,
-        table,
-        share,
-        tolerance,
-        w,
-        h,
-        column,
-        row,
-        width,
-        height,
-        texture,
-        depths,
-        limits,
-        candidate,
-        bytes,
-        &mut room[..],
-        samples,
-        fronts,
-        marks,
-        combined,
-        reference,
-    )
-}
-
-// The same for a candidate whose rows are made, in a room of its own.
 pub fn trial_made(
     tear: Tear,
     right: bool,
@@ -434,17 +291,11 @@ pub fn trial_made(
 ) -> Sums
     requires table_value { (table_ok table.now ≡ true) × (share ≤ 64) }
     requires sized { Sized w h (around right share tolerance samples.now fronts.now marks.now combined.now reference.now) (own tear table.now texture.now depths.now limits.now) }
-    requires fits { (Fits w h (block_of column row width height) (filled (block_of column row width height) candidate bytes.now)) × (candidate_then (block_of column row width height) candidate bytes.now 0 ≡ 0) }
+    requires fits { (Fits w h (block_of column row width height) (filled (block_of column row width height) candidate bytes.now)) × (candidate_then (block_of column row width height) candidate (length bytes.now) 0 ≡ 0) }
     requires candidate_value { is_lent candidate ≡ false }
     ensures { BlockTrial w (around right share tolerance samples.now fronts.now marks.now combined.now reference.now)
         (own tear table.now texture.now depths.now limits.now) (block_of column row width height) (filled (block_of column row width height) candidate bytes.now) height result.old result.new }
 {
-    if fill::whole(candidate) {
-        return trial_square(
-            tear, right, table, share, tolerance, w, h, column, row, width, height, texture,
-            depths, limits, candidate, bytes, samples, fronts, marks, combined, reference,
-        );
-    }
     if width <= 256 {
         let mut room = fill::short_room();
         return trial_by_rooms(
@@ -525,7 +376,7 @@ pub fn trial_candidate(
 ) -> Sums
     requires table_value { (table_ok table.now ≡ true) × (share ≤ 64) }
     requires sized { Sized w h (around right share tolerance samples.now fronts.now marks.now combined.now reference.now) (own tear table.now texture.now depths.now limits.now) }
-    requires fits { (Fits w h (block_of column row width height) (filled (block_of column row width height) candidate bytes.now)) × (candidate_then (block_of column row width height) candidate bytes.now 0 ≡ 0) }
+    requires fits { (Fits w h (block_of column row width height) (filled (block_of column row width height) candidate bytes.now)) × (candidate_then (block_of column row width height) candidate (length bytes.now) 0 ≡ 0) }
     ensures { BlockTrial w (around right share tolerance samples.now fronts.now marks.now combined.now reference.now)
         (own tear table.now texture.now depths.now limits.now) (block_of column row width height) (filled (block_of column row width height) candidate bytes.now) height result.old result.new }
 {

@@ -17,9 +17,9 @@ use Rattle.model.specs.declared.Block.{Block}
 use Rattle.model.specs.declared.Candidate.{Candidate}
 use Rattle.model.specs.Marks.{mark_bytes}
 use Rattle.model.specs.Planes.{Pictures, Depths, Held, view_of, texture_of, depths_of}
-use Rattle.model.specs.Refusals.{side_ok, size_ok, pictures_sized, depths_sized, held_sized, planes_sized, table_ok, tear_ok, tables_ok, block_ok, view_ok, count_then, tree_then, candidate_then, common_then, own_then, early_number}
+use Rattle.model.specs.Refusals.{side_ok, size_ok, pictures_sized, depths_sized, held_sized, planes_sized, table_ok, tear_ok, tables_ok, block_ok, view_ok, candidate_then, common_then, own_then, early_number}
 use Rattle.model.proofs.Choice.{bool_cases, and_true, and_left, and_right}
-use Rattle.model.proofs.Refusals.{unless_true, side_facts, Before, none_before, one_before, then_before, count_before, pictures_yes, pictures_facts, depths_yes, depths_facts, held_yes, held_facts}
+use Rattle.model.proofs.Refusals.{unless_true, side_facts, Before, none_before, one_before, then_before, pictures_yes, pictures_facts, depths_yes, depths_facts, held_yes, held_facts}
 use Rattle.validate.specs.declared.ViewLengths.{ViewLengths}
 use Rattle.validate.specs.declared.Lengths.{Lengths}
 use Rattle.validate.specs.Numbers.{planes_fit, common_number, sides, own_number}
@@ -96,15 +96,12 @@ step_before a x k m e q =
     (λ t. let z = eqb-true k 0 t in rw t (sym (a.rest x (sym e ∙ z))))
     (λ t. let ne = eqb-false k 0 t in rw t (e ∙ sym (a.stays x (λ z. ne (e ∙ z)))))
 
--- the number found by the four steps of GET and SET
-pub steps_number : (w h : ℕ) (left right : List ℕ) (share : ℕ) (tear : Tear) (l : Lengths) (v : ℕ) (b : Block) (c : Candidate) (x : List ℕ) (k m q r : ℕ) → k ≡ common_number w h left right share tear l 0 → m ≡ cond (eqb k 0) (own_number w h v b 0) k → q ≡ cond (eqb m 0) (count_then b c (length x) 0) m → r ≡ cond (eqb q 0) (tree_then b c x 0) q → r ≡ common_number w h left right share tear l (own_number w h v b (candidate_then b c x 0))
-unfolding candidate_then
-steps_number w h left right share tear l v b c x k m q r e₁ e₂ e₃ e₄ =
-    let early = early_before w h left right share tear l v b in
-    step_before (then_before early (count_before b c (length x))) (tree_then b c x 0) q r
-    (step_before early (count_then b c (length x) 0) m q
-    (step_before (numbers_before w h left right share tear l) (own_number w h v b 0) k m e₁ e₂) e₃) e₄
+-- the number found by the three steps of GET and SET
+pub steps_number : (w h : ℕ) (left right : List ℕ) (share : ℕ) (tear : Tear) (l : Lengths) (v : ℕ) (b : Block) (c : Candidate) (n k m r : ℕ) → k ≡ common_number w h left right share tear l 0 → m ≡ cond (eqb k 0) (own_number w h v b 0) k → r ≡ cond (eqb m 0) (candidate_then b c n 0) m → r ≡ common_number w h left right share tear l (own_number w h v b (candidate_then b c n 0))
+steps_number w h left right share tear l v b c n k m r e q u =
+    step_before (early_before w h left right share tear l v b) (candidate_then b c n 0) m r
+    (step_before (numbers_before w h left right share tear l) (own_number w h v b 0) k m e q) u
 
-pub early_number_lem : (s : Settings) (p : Pictures) (d : Depths) (h : Held) (v : ℕ) (b : Block) (c : Candidate) (x : List ℕ) → common_number s.w s.h s.left s.right s.share s.tear (lengths_of p d h) (own_number s.w s.h v b (candidate_then b c x 0)) ≡ early_number s p d h v b c x
+pub early_number_lem : (s : Settings) (p : Pictures) (d : Depths) (h : Held) (v : ℕ) (b : Block) (c : Candidate) (n : ℕ) → common_number s.w s.h s.left s.right s.share s.tear (lengths_of p d h) (own_number s.w s.h v b (candidate_then b c n 0)) ≡ early_number s p d h v b c n
 unfolding own_then own_number block_ok
-early_number_lem s p d h v b c x = common_number_lem s p d h (own_then s v b c x 0)
+early_number_lem s p d h v b c n = common_number_lem s p d h (own_then s v b c n 0)

@@ -1,6 +1,6 @@
 // The tests that several calls have in common, in the order of their lists. Of a plane they look at its length alone; the entries of a picture are a test apart, which only OPEN and MOVE make.
 ghost use Rattle.std.specs.Prelude.{◌≡◌, cond, ◌+◌, ◌<◌, ◌≤◌, eqb};
-ghost use Rattle.model.specs.Refusals.{number_of, block_ok, count_then, tree_then};
+ghost use Rattle.model.specs.Refusals.{number_of, block_ok, candidate_then};
 ghost use Rattle.validate.specs.Numbers.{view_fits, planes_fit, common_number, sides, own_number};
 
 use model::{Block, Candidate, Refusal, Tear};
@@ -130,8 +130,8 @@ pub fn own(w: u32, h: u32, view: u32, block: Block) -> Refusal
     Refusal::None
 }
 
-// What `common` refused, or else 6 or 5. GET and SET go step by step, `common`, this, `with_candidate`, `with_tree`: the compiler takes a step into GET only as
-// long as it is small.
+// What `common` refused, or else 6 or 5. GET and SET go step by step, `common`, this, `with_candidate`: the compiler takes a step into GET only as long as it is
+// small.
 pub fn with_block(common: Refusal, w: u32, h: u32, view: u32, block: Block) -> Refusal
     ensures { number_of result ≡ cond (eqb (number_of common) 0) (own_number w h view block 0) (number_of common) }
 {
@@ -141,31 +141,12 @@ pub fn with_block(common: Refusal, w: u32, h: u32, view: u32, block: Block) -> R
     own(w, h, view, block)
 }
 
-// What was refused before, or else the candidate's own number where it looks at no more of its bytes than their number n.
+// What was refused before, or else the candidate's own number.
 pub fn with_candidate(before: Refusal, block: Block, candidate: Candidate, n: usize) -> Refusal
-    ensures { number_of result ≡ cond (eqb (number_of before) 0) (count_then block candidate n 0) (number_of before) }
+    ensures { number_of result ≡ cond (eqb (number_of before) 0) (candidate_then block candidate n 0) (number_of before) }
 {
     if model::number(before) != 0 {
         return before;
     }
     candidates::candidate_refusal(block, candidate, n)
-}
-
-// What was refused before, or else 16 or 17 for a tree.
-pub fn with_tree(before: Refusal, block: Block, candidate: Candidate, bytes: &[u8]) -> Refusal
-    ensures { number_of result ≡ cond (eqb (number_of before) 0) (tree_then block candidate bytes.now 0) (number_of before) }
-{
-    if model::number(before) != 0 {
-        return before;
-    }
-    match candidate {
-        Candidate::Full => Refusal::None,
-        Candidate::Flat(_) => Refusal::None,
-        Candidate::Regions {
-            value0: _,
-            value1: _,
-            split: _,
-        } => Refusal::None,
-        Candidate::Tree => trees::tree_refusal(block, bytes),
-    }
 }

@@ -1,5 +1,5 @@
 //! The independent renderer: document 01 said again as plainly as it can be, each position drawn from its owner, the journal of
-//! card 3, the bound of card 4, the trees of card 8, the separate edits of card 10, and the seat of card 11.
+//! card 3, the bound of card 4, the separate edits of card 10, and the seat of card 11.
 //!
 //! It shares no code with the library and holds nothing between calls. It is slow on purpose: every question is answered
 //! by a fresh drawing of the whole picture.
@@ -346,51 +346,8 @@ pub fn bit(block: Block, bits: &[u8], column: u32, row: u32) -> bool {
     bits[k / 8] >> (k % 8) & 1 == 1
 }
 
-/// The sides that a block of a tree may have (card 8).
-pub const TREE_SIDES: [u32; 5] = [4, 8, 16, 32, 64];
-
-/// The depths, in row order, of the tree of this side that the bytes are; nothing where they aren't exactly one tree (card 8).
-///
-/// The squares that no byte was read for yet are listed, the next one last. Each takes 0 and a depth, or 1, and its quarters are
-/// listed in its place. Side 4 is always flat.
-pub fn tree_depths(side: u32, bytes: &[u8]) -> Option<Vec<u8>> {
-    let (width, mut bytes) = (side as usize, bytes.iter().copied());
-    let mut depths = vec![0; width * width];
-    let mut squares = vec![(0, 0, width)];
-    while let Some((column, row, side)) = squares.pop() {
-        let half = side / 2;
-        match bytes.next()? {
-            0 => {
-                let depth = bytes.next()?;
-                (row..row + side).for_each(|y| depths[y * width + column..][..side].fill(depth));
-            }
-            1 if side > 4 => {
-                let above = [(column, row, half), (column + half, row, half)];
-                let below = [(column, row + half, half), (column + half, row + half, half)];
-                squares.extend(above.into_iter().chain(below).rev());
-            }
-            _ => return None,
-        }
-    }
-    bytes.next().is_none().then_some(depths)
-}
-
-/// What a tree is refused with: 16, block not square with a side of 4, 8, 16, 32 or 64; 17, bytes that aren't exactly one tree.
-pub fn tree_number(block: Block, bytes: &[u8]) -> u32 {
-    if block.width != block.height || !TREE_SIDES.contains(&block.width) {
-        16
-    } else if tree_depths(block.width, bytes).is_none() {
-        17
-    } else {
-        0
-    }
-}
-
 /// The depths of a block so filled, in row order: each region's value fills its positions, region 0 being the rest.
 pub fn filled(block: Block, candidate: Candidate) -> Vec<u8> {
-    if let Candidate::Tree(bytes) = candidate {
-        return tree_depths(block.width, bytes).expect("the tree is taken");
-    }
     let mut depths = Vec::new();
     for (row, column) in (0..block.height).flat_map(|row| (0..block.width).map(move |column| (row, column))) {
         depths.push(match candidate {
@@ -398,7 +355,6 @@ pub fn filled(block: Block, candidate: Candidate) -> Vec<u8> {
             Candidate::Flat(value) => value,
             Candidate::Regions { values, regions: Regions::Line { start, end } } => values[usize::from(beside(start, end, column, row))],
             Candidate::Regions { values, regions: Regions::Mask(bits) } => values[usize::from(bit(block, bits, column, row))],
-            Candidate::Tree(_) => unreachable!("a tree has its own reader"),
         });
     }
     depths
@@ -490,14 +446,13 @@ pub fn total_is_taken(settings: &Settings, change: i64) -> bool {
     (0..=i128::from(WORST) * i128::from(settings.w) * i128::from(settings.h)).contains(&total)
 }
 
-/// What a candidate's kind turns down: 7 a full block, 14 a line, 15 a mask, 16 and 17 a tree. The number, 0 for none.
+/// What a candidate's kind turns down: 7 a full block, 14 a line, 15 a mask. The number, 0 for none.
 pub fn candidate_number(block: Block, candidate: Candidate) -> u32 {
     let area = u64::from(block.width) * u64::from(block.height);
     match candidate {
         Candidate::Full(depths) if depths.len() as u64 != area => 7,
         Candidate::Regions { regions: Regions::Line { start, end }, .. } if !line_is_taken(block, start, end) => 14,
         Candidate::Regions { regions: Regions::Mask(bits), .. } if bits.len() as u64 != mask_length(block) => 15,
-        Candidate::Tree(bytes) => tree_number(block, bytes),
         _ => 0,
     }
 }

@@ -111,9 +111,7 @@ pub fn size(random: &mut Random) -> (usize, usize) {
         0 => (4096, random.between(1, 2)),
         1 => (random.between(1, 3), 4096),
         2..=5 => (random.between(200, 1100), random.between(1, 2)),
-        6..=9 => (random.between(60, 72), random.between(62, 70)),
-        10..=19 => (random.between(12, 40), random.between(12, 40)),
-        20..=25 => (random.between(41, 130), random.between(1, 4)),
+        6..=25 => (random.between(41, 130), random.between(1, 4)),
         26..=40 => (random.pick(&[63, 64, 65, 72, 127, 128, 129]), random.between(1, 4)),
         41..=160 => (random.pick(&[1, 7, 8, 9, 15, 16, 17]), random.between(1, 6)),
         161..=360 => (random.between(1, 9), random.between(1, 6)),
@@ -290,18 +288,6 @@ fn fill<T: Copy>(plane: &mut [T], w: usize, block: Block, value: T) {
     }
 }
 
-/// A square block of one of these sides, in a corner, at an edge or anywhere; nothing where the picture has no room for one.
-pub fn square(random: &mut Random, w: usize, h: usize, sides: &[u32]) -> Option<Block> {
-    let sides: Vec<u32> = sides.iter().copied().filter(|&side| side as usize <= w.min(h)).collect();
-    let side = if sides.is_empty() { return None } else { random.pick(&sides) };
-    let mut along = |n: usize| {
-        let last = n - side as usize;
-        let any = random.between(0, last);
-        random.pick(&[0, last, any]) as u32
-    };
-    Some(Block { column: along(w), row: along(h), width: side, height: side })
-}
-
 /// A block, from 1 × 1 to the whole picture.
 pub fn block(random: &mut Random, w: usize, h: usize) -> Block {
     let (width, height) = match random.between(0, 9) {
@@ -317,15 +303,10 @@ pub fn block(random: &mut Random, w: usize, h: usize) -> Block {
     Block { column: column as u32, row: row as u32, width: width as u32, height: height as u32 }
 }
 
-/// A block to edit: any, one that a tree can have, or one that ends just left of a near thing, as the view reads the row, and
-/// reaches back to the position before the thing's place.
+/// A block to edit: any, or one that ends just left of a near thing, as the view reads the row, and reaches back to the
+/// position before the thing's place.
 pub fn edited_block(random: &mut Random, settings: &Settings, view: usize, depths: &[u8]) -> Block {
     let (w, h) = (settings.w as usize, settings.h as usize);
-    if random.once_in(3) {
-        if let Some(block) = square(random, w, h, &paper::TREE_SIDES) {
-            return block;
-        }
-    }
     let (y, table) = (random.between(0, h - 1), [&settings.left, &settings.right][view]);
     let place = |c: usize| 4 * c as i32 - i32::from(table[usize::from(depths[y * w + if view == 0 { c } else { w - 1 - c }])]);
     let things: Vec<usize> = (1..w).filter(|&c| place(c) < place(c - 1)).collect();
@@ -341,8 +322,8 @@ pub fn edited_block(random: &mut Random, settings: &Settings, view: usize, depth
     Block { column: column as u32, row: row as u32, width: (end - first) as u32, height: (last - row + 1) as u32 }
 }
 
-/// A candidate with bytes of its own, as a C program passes it: kind 0 is a full block, 1 one value, 2 a line, 3 a mask, 4 a tree,
-/// and others are unknown. What its kind does not look at may be anything.
+/// A candidate with bytes of its own, as a C program passes it: kind 0 is a full block, 1 one value, 2 a line, 3 a mask, and
+/// others are unknown. What its kind does not look at may be anything.
 #[derive(Clone, PartialEq, Eq, Debug)]
 pub struct Tried {
     pub kind: u32,
@@ -361,7 +342,6 @@ impl Tried {
             1 => Some(Candidate::Flat(values[0])),
             2 => Some(Candidate::line(start, end, values)),
             3 => Some(Candidate::mask(self.bytes.entries(), values)),
-            4 => Some(Candidate::Tree(self.bytes.entries())),
             _ => None,
         }
     }
@@ -391,9 +371,6 @@ pub fn full(depths: &[u8]) -> Tried {
 /// A candidate that a block takes, of any kind that it can have.
 pub fn candidate(random: &mut Random, w: usize, depths: &[u8], block: Block) -> Tried {
     let tried = anything(random, depths, block);
-    if paper::tree_number(block, &[]) != 16 && random.once_in(2) {
-        return Tried { kind: 4, bytes: Guarded::new(&tree(random, block.width, depths), 0x3c), ..tried };
-    }
     match random.between(0, 11) {
         0..=3 => Tried { kind: 0, bytes: Guarded::new(&full_depths(random, w, depths, block), 0x3c), ..tried },
         4..=6 => Tried { kind: 1, ..tried },
@@ -405,7 +382,7 @@ pub fn candidate(random: &mut Random, w: usize, depths: &[u8], block: Block) -> 
     }
 }
 
-/// A candidate that a block does not take: 7, 14, 15, 16 or 17.
+/// A candidate that a block does not take: 7, 14 or 15.
 pub fn refused_candidate(random: &mut Random, w: usize, depths: &[u8], block: Block) -> Tried {
     let tried = anything(random, depths, block);
     let resized = |random: &mut Random, right: usize| {
@@ -414,14 +391,13 @@ pub fn refused_candidate(random: &mut Random, w: usize, depths: &[u8], block: Bl
         let length = random.pick(&wrong);
         Guarded::new(&bits(random, length), 0x3c)
     };
-    match random.between(0, 13) {
+    match random.between(0, 9) {
         0 | 1 => Tried { kind: 0, bytes: resized(random, (block.width * block.height) as usize), ..tried },
         2..=5 => {
             let (start, end) = refused_line(random, block);
             Tried { kind: 2, start, end, ..tried }
         }
         6 | 7 => Tried { kind: 3, bytes: resized(random, paper::mask_length(block) as usize), ..tried },
-        8..=11 => Tried { kind: 4, bytes: Guarded::new(&refused_tree(random, block, depths), 0x3c), ..tried },
         _ => Tried { kind: unknown_kind(random), ..candidate(random, w, depths, block) },
     }
 }
@@ -434,31 +410,19 @@ pub fn edit(random: &mut Random, settings: &Settings, depths: [&[u8]; 2]) -> (Vi
     (view, block, candidate(random, settings.w as usize, plane, block))
 }
 
-/// One that they refuse: 5, 6, 7, 14, 15, 16 or 17.
+/// One that they refuse: 5, 6, 7, 14 or 15.
 pub fn refused_edit(random: &mut Random, settings: &Settings, depths: [&[u8]; 2]) -> (u32, Block, Tried) {
     let (view, mut block, mut tried) = edit(random, settings, depths);
-    let (w, h) = (settings.w as usize, settings.h as usize);
     if random.once_in(2) {
-        let plane = depths[view as usize];
-        let other = match random.between(0, 3) {
-            0 => square(random, w, h, &[1, 2, 3, 5, 6, 12, 24, 63, 128]),
-            1 => square(random, w, h, &paper::TREE_SIDES),
-            _ => None,
-        };
-        block = other.unwrap_or(block);
-        if other.is_some() && random.once_in(2) {
-            let bytes = Guarded::new(&refused_tree(random, block, plane), 0x3c);
-            return (view as u32, block, Tried { kind: 4, bytes, ..tried });
-        }
-        return (view as u32, block, refused_candidate(random, w, plane, block));
+        return (view as u32, block, refused_candidate(random, settings.w as usize, depths[view as usize], block));
     }
     let mut view = view as u32;
     match random.between(0, 4) {
         0 => view = random.pick(&[2, 3, 255, 256, u32::MAX]),
         1 => block.width = 0,
         2 => block.height = 0,
-        3 => block.column = random.pick(&[settings.w - block.width + 1, settings.w, u32::MAX, u32::MAX - block.width + 1]),
-        _ => block.row = random.pick(&[settings.h - block.height + 1, settings.h, u32::MAX, u32::MAX - block.height + 1]),
+        3 => block.column = random.pick(&[settings.w, u32::MAX, u32::MAX - block.width + 1]),
+        _ => block.row = random.pick(&[settings.h, u32::MAX, u32::MAX - block.height + 1]),
     }
     if random.once_in(3) {
         tried.kind = kind(random);
@@ -467,14 +431,14 @@ pub fn refused_edit(random: &mut Random, settings: &Settings, depths: [&[u8]; 2]
 }
 
 fn unknown_kind(random: &mut Random) -> u32 {
-    let high = random.pick(&[8, 256, 1 << 16, 1 << 24, 1 << 31]);
-    random.pick(&[5, 6, 255, u32::MAX, u32::MAX - 4, high, high + 1, high + 2, high + 3, high + 4])
+    let high = random.pick(&[4, 256, 1 << 16, 1 << 24, 1 << 31]);
+    random.pick(&[4, 5, 255, u32::MAX, u32::MAX - 3, high, high + 1, high + 2, high + 3])
 }
 
 /// Any kind, with the unknown ones.
 pub fn kind(random: &mut Random) -> u32 {
     let unknown = unknown_kind(random);
-    random.pick(&[0, 1, 2, 3, 4, unknown])
+    random.pick(&[0, 1, 2, 3, unknown])
 }
 
 /// Values, points and bytes, whatever a kind looks at.
@@ -482,56 +446,6 @@ fn anything(random: &mut Random, depths: &[u8], block: Block) -> Tried {
     let values = [(); 2].map(|()| if random.once_in(2) { random.byte() } else { random.pick(depths) });
     let (start, end, length) = (point(random, block), point(random, block), random.between(0, 20));
     Tried { kind: 0, values, start, end, bytes: Guarded::new(&random.bytes(length), 0x3c) }
-}
-
-/// The bytes of a tree of this side: one leaf, all splits down to side 4, or some. Depths are of the plane, any, or such as could
-/// be tags.
-pub fn tree(random: &mut Random, side: u32, depths: &[u8]) -> Vec<u8> {
-    let (mut bytes, mut nodes, flat) = (Vec::new(), vec![side], random.pick(&[1, 2, 3, 5, usize::MAX]));
-    while let Some(side) = nodes.pop() {
-        if side == 4 || flat < usize::MAX && random.once_in(flat) {
-            let (any, tag, own) = (random.byte(), random.between(0, 2) as u8, random.pick(depths));
-            bytes.extend([0, random.pick(&[any, tag, own, own])]);
-        } else {
-            bytes.push(1);
-            nodes.extend([side / 2; 4]);
-        }
-    }
-    bytes
-}
-
-/// Bytes that are no tree of this block: cut short, with some to spare, with another tag, a tree of another side, splits alone, or
-/// anything. For a block that no tree can have they may be a tree of some side.
-pub fn refused_tree(random: &mut Random, block: Block, depths: &[u8]) -> Vec<u8> {
-    loop {
-        let taken = paper::tree_number(block, &[]) != 16;
-        let side = if taken { block.width } else { random.pick(&paper::TREE_SIDES) };
-        let mut bytes = tree(random, side, depths);
-        match random.between(0, 7) {
-            0 | 1 => {
-                let (one, any) = (bytes.len() - 1, random.between(0, bytes.len() - 1));
-                bytes.truncate(random.pick(&[0, one, one, any]));
-            }
-            2 | 3 => {
-                let more = random.pick(&[1, 1, 2, 9, 700]);
-                bytes.extend((0..more).map(|_| random.pick(&[0, 1, 2, 255])));
-            }
-            4 => bytes[0] = random.pick(&[2, 2, 3, 128, 254, 255]),
-            5 => {
-                let at = random.between(0, bytes.len() - 1);
-                bytes[at] = random.pick(&[1, 2, 2, 255]);
-            }
-            6 => {
-                let other = random.pick(&paper::TREE_SIDES);
-                let other = random.pick(&[2 * side, other]);
-                bytes = tree(random, other, depths);
-            }
-            _ => bytes = vec![random.pick(&[0, 1, 1, 2]); random.pick(&[1, 2, 9, 37, 149, 597, 600])],
-        }
-        if paper::tree_number(block, &bytes) != 0 {
-            return bytes;
-        }
-    }
 }
 
 /// Bits of a mask: any, few, many, none or all.

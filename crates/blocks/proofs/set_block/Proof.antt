@@ -2,13 +2,9 @@
 use mathlib.Core.Path.{sym, ◌∙◌}
 use native.Mathlib.Omega.{arith}
 use lib.Seq.{length-take-le}
-use Rattle.planes.specs.Parts.{block_of}
-use Rattle.fill.proofs.Rooms.{room_most}
+use Rattle.combine.proofs.Filled.{room_most}
 use Rattle.blocks.proofs.set_block.Statement.{statement}
 use Rattle.blocks.proofs.set_block.Tie as tie
-
-room-of-requires : tie.Need-room-of-requires
-room-of-requires c κs = let s = c.before.before.before.before.before.before.before.before.before.before in omega (arith, s.requires.1.1.1.0.right, s.requires.0.1.1.0)
 
 slice-aggregate-set-rows : tie.Need-slice-aggregate-set-rows
 slice-aggregate-set-rows c = sym (length-take-le _ c.before.short-room.result (omega (arith, c.before.short-room.ensures, c.before.before.if1.true)))
@@ -21,7 +17,7 @@ set-rows-requires c κs =
 array-borrow-prefix-room-2 : tie.Need-array-borrow-prefix-room-2
 array-borrow-prefix-room-2 c =
     let s = c.before.before.before.before.before.before.before.before.before.before.before.before.before in
-    omega (arith, c.long-room.ensures, c.before.before.room_of.ensures, room_most (block_of s.args.column s.args.row s.args.width s.args.height) s.args.candidate s.args.bytes.now (omega (arith, s.requires.1.1.1.0.right, s.requires.0.1.1.0)) s.requires.1.1.1.1)
+    omega (arith, c.long-room.ensures, c.before.before.room_of.ensures, room_most s.args.candidate s.args.width, s.requires.1.1.1.0.right, s.requires.0.1.1.0)
 
 slice-aggregate-set-rows-2 : tie.Need-slice-aggregate-set-rows-2
 slice-aggregate-set-rows-2 c = sym (length-take-le _ c.before.long-room.result (array-borrow-prefix-room-2 c.before))
@@ -35,7 +31,7 @@ pub set-block-spec : {M : Type 1} → statement M
 set-block-spec =
     tie.close
     (tie.spec
-    room-of-requires
+    (λ c κs. tt)
     (λ c κs. tt)
     (λ c. omega (arith, c.short-room.ensures, c.before.if1.true))
     slice-aggregate-set-rows

@@ -3,7 +3,7 @@ use native.Mathlib.Omega.{arith}
 use native.Mathlib.Nat.{mul-le-mul}
 use mathlib.Core.Path.{sym, ◌∙◌}
 use borrow.Author.Tests.{not_true, not-false, eq-eqb, ne_eqb}
-use Rattle.model.specs.Refusals.{count_then}
+use Rattle.model.specs.Refusals.{candidate_then}
 use borrow.Author.Rules.{rules}
 use Rattle.candidates.proofs.candidate_refusal.Statement.{statement}
 use Rattle.candidates.proofs.candidate_refusal.Tie as tie
@@ -15,11 +15,11 @@ mul-area : tie.Need-overflow-mul-area
 mul-area c = let b = c.before.before.args.block in omega (arith, area-fits b.width b.height (omega arith) (omega arith))
 
 returns : tie.Need-returns
-unfolding count_then
+unfolding candidate_then
 returns c = rw (c.before.enum_told.given.1, ne_eqb _ _ c.if1.true)
 
 returns-2 : tie.Need-returns-2
-unfolding count_then
+unfolding candidate_then
 returns-2 c =
     rw (
       c.before.before.before.before.before.before.candidate.given.1,
@@ -31,20 +31,20 @@ add-if3 : tie.Need-overflow-add-if3
 add-if3 c = let b = c.before.before.before.before.before.before.before.args.block in omega (arith, area-fits b.width b.height (omega arith) (omega arith))
 
 returns-3 : tie.Need-returns-3
-unfolding count_then
+unfolding candidate_then
 returns-3 c =
     rw (c.before.before.before.before.candidate.given.1, c.before.enum-told3.given.1, ne_eqb _ _ c.if3.true)
 
 returns-4 : tie.Need-returns-4
-unfolding count_then
+unfolding candidate_then
 returns-4 c = rw (c.before.enum_told.given.1, eq-eqb _ _ c.if1.false)
 
 returns-5 : tie.Need-returns-5
-unfolding count_then
+unfolding candidate_then
 returns-5 c = rw c.enum-told2.given.1
 
 returns-6 : tie.Need-returns-6
-unfolding count_then
+unfolding candidate_then
 returns-6 c =
     rw (
       c.before.before.before.before.before.before.candidate.given.1,
@@ -53,13 +53,9 @@ returns-6 c =
     )
 
 returns-7 : tie.Need-returns-7
-unfolding count_then
+unfolding candidate_then
 returns-7 c =
     rw (c.before.before.before.before.candidate.given.1, c.before.enum-told3.given.1, eq-eqb _ _ c.if3.false)
-
-returns-8 : tie.Need-returns-8
-unfolding count_then
-returns-8 c = rw c.enum-told4.given.1
 
 pub candidate-refusal-spec : {M : Type 1} → statement M
 candidate-refusal-spec =
@@ -78,9 +74,7 @@ candidate-refusal-spec =
     (λ c. search rules)
     add-if3
     returns-3
-    (λ c. search rules)
     returns-4
     returns-5
     returns-6
-    returns-7
-    returns-8)
+    returns-7)

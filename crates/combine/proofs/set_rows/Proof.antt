@@ -7,9 +7,8 @@ use Rattle.model.specs.Planes.{view}
 use Rattle.model.specs.Candidates.{filled}
 use Rattle.planes.specs.Parts.{block_of}
 use Rattle.fill.specs.Rows.{room_of, Started}
-use Rattle.fill.proofs.Rows.{startable}
 use Rattle.commit.proofs.Planes.{sized_row}
-use Rattle.combine.proofs.Filled.{one_there, row_here, row_chosen}
+use Rattle.combine.proofs.Filled.{one_fits, one_there, row_here, row_chosen}
 use Rattle.combine.proofs.Rows.{Through, through_none, through_next, through_all, row_wide, other_row, resized, other_resized}
 use Rattle.combine.proofs.set_rows.Statement.{statement}
 use Rattle.combine.proofs.set_rows.Tie as tie
@@ -18,17 +17,14 @@ abbrev invariant-loop : tie.invariant-loop
 invariant-loop tear right table share tolerance w h column row width height texture candidate bytes room₀ depths₀ samples₀ fronts₀ limits₀ marks₀ samples2 fronts2 marks2 combined₀ j₀ room depths samples fronts limits marks combined j =
     (Through tear right table share tolerance w h (block_of column row width height) j texture (filled (block_of column row width height) candidate bytes) samples2 fronts2 marks2 depths₀ depths
     (view samples₀ fronts₀ limits₀ marks₀) (view samples fronts limits marks) combined₀ combined)
-    × ((length room ≡ room_of width candidate 1) × (Started width candidate bytes room))
+    × ((length room ≡ room_of candidate width) × (Started candidate room))
 
 abbrev decreases-loop : tie.decreases-loop
 decreases-loop tear right table share tolerance w h column row width height texture candidate bytes room₀ depths₀ samples₀ fronts₀ limits₀ marks₀ samples2 fronts2 marks2 combined₀ j₀ room depths samples fronts limits marks combined j =
     height - j
 
 start-requires : tie.Need-start-requires invariant-loop decreases-loop
-start-requires c κs =
-    let s = c.before.before.before.before.before.before.before.before.before.before.before.before in
-    let a = s.args in
-    startable (block_of a.column a.row a.width a.height) a.candidate a.bytes.now a.room.now s.requires.1.1.1.1.0 s.requires.1.1.1.1.1
+start-requires c κs = tt
 
 loop-holds : tie.Need-loop-init invariant-loop decreases-loop
 loop-holds c =
@@ -41,7 +37,7 @@ fill-rows-requires c κs =
     let s = c.before.before.before.before.before.before.before.before.before.before.before.before.before.before.before.before.before.before in
     let a = s.args in
     let l = c.before.before.loop in
-    (one_there (block_of a.column a.row a.width a.height) a.candidate a.bytes.now l.j s.requires.1.1.1.0 s.requires.0.1.1.0 s.requires.0.1.1.1 s.requires.1.1.1.1.0 c.before.loop-test.true, (l.invariant.1.0, l.invariant.1.1))
+    (one_there (block_of a.column a.row a.width a.height) a.candidate a.bytes.now l.j s.requires.1.1.1.0 s.requires.0.1.1.0 s.requires.0.1.1.1 s.requires.1.1.1.1.0 c.before.loop-test.true, (one_fits a.candidate a.width l.room l.invariant.1.0, l.invariant.1.1))
 
 row-of-requires : tie.Need-row-of-requires invariant-loop decreases-loop
 row-of-requires c κs =
@@ -49,7 +45,6 @@ row-of-requires c κs =
     let a = s.args in
     let l = c.before.before.before.before.before.before.loop in
     row_here (block_of a.column a.row a.width a.height) a.candidate a.bytes.now l.j s.requires.1.1.1.0 s.requires.0.1.1.0 s.requires.0.1.1.1 s.requires.1.1.1.1.0 c.before.before.before.before.before.loop-test.true
-    c.before.before.before.fill-rows.new.1.1.1.1.1.0 (c.before.before.before.fill-rows.ensures.size ∙ l.invariant.1.0)
 
 add-set-row : tie.Need-overflow-add-set-row invariant-loop decreases-loop
 add-set-row c =

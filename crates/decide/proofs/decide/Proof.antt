@@ -1,5 +1,6 @@
 use Prim.Native.Nat.{ℕ}
 use mathlib.Core.Path.{◌≡◌, sym, ap, ◌∙◌}
+use lib.ListN.{length}
 use Rattle.model.specs.declared.Settings.{Settings}
 use Rattle.model.specs.Planes.{Pictures, Depths, Held, pictures, depths}
 use Rattle.model.specs.Refusals.{number_of, early_number}
@@ -27,19 +28,19 @@ kept c =
     held_of a.leftSamples.now a.leftFronts.now a.leftLimits.now a.leftMarks.now a.rightSamples.now a.rightFronts.now
     a.rightLimits.now a.rightMarks.now a.combined.now
 
-abbrev start : tie.After-with-tree → tie.Start
-start c = c.before.before.before.before.before.before.before.before.before.before.before.before.before.before.before.before.before
+abbrev start : tie.After-with-candidate → tie.Start
+start c = c.before.before.before.before.before.before.before.before.before.before.before.before.before.before.before.before
 
 -- the early refusal that was found
-found : (c : tie.After-with-tree) (total : ℕ) → number_of c.with-tree.result ≡ early_number (settings (start c) total) (shown (start c)) (lent (start c)) (kept (start c)) (start c).args.view (start c).args.block (start c).args.candidate (start c).args.bytes.now
+found : (c : tie.After-with-candidate) (total : ℕ) → number_of c.with-candidate.result ≡ early_number (settings (start c) total) (shown (start c)) (lent (start c)) (kept (start c)) (start c).args.view (start c).args.block (start c).args.candidate (length (start c).args.bytes.now)
 found c total =
     let a = (start c).args in
-    steps_number a.w a.h a.leftTable.now a.rightTable.now a.share a.tear _ a.view a.block a.candidate a.bytes.now _ _ _ _
-    c.before.before.before.common.ensures c.before.before.with-block.ensures c.before.with-candidate.ensures c.with-tree.ensures
-    ∙ early_number_lem (settings (start c) total) (shown (start c)) (lent (start c)) (kept (start c)) a.view a.block a.candidate a.bytes.now
+    steps_number a.w a.h a.leftTable.now a.rightTable.now a.share a.tear _ a.view a.block a.candidate (length a.bytes.now) _ _ _
+    c.before.before.common.ensures c.before.with-block.ensures c.with-candidate.ensures
+    ∙ early_number_lem (settings (start c) total) (shown (start c)) (lent (start c)) (kept (start c)) a.view a.block a.candidate (length a.bytes.now)
 
 -- none was found
-none : (c : tie.Else1) (total : ℕ) → let a = start c.before.before in early_number (settings a total) (shown a) (lent a) (kept a) a.args.view a.args.block a.args.candidate a.args.bytes.now ≡ 0
+none : (c : tie.Else1) (total : ℕ) → let a = start c.before.before in early_number (settings a total) (shown a) (lent a) (kept a) a.args.view a.args.block a.args.candidate (length a.args.bytes.now) ≡ 0
 none c total = sym (found c.before.before total) ∙ sym c.before.number.ensures ∙ c.if1.false
 
 returns : tie.Need-returns
@@ -70,7 +71,6 @@ pub decide-spec : {M : Type 1} → statement M
 decide-spec =
     tie.close
     (tie.spec
-    (λ c κs. search rules)
     (λ c κs. search rules)
     (λ c κs. search rules)
     (λ c κs. search rules)

@@ -1,5 +1,6 @@
+-- `fill::fill_rows` meets its contract: the rows passed are made, and each is made in its own part of the room.
 use Prim.Native.Nat.{ℕ, ◌+◌, ◌*◌, ◌-◌, ◌<◌, ◌≤◌}
-use mathlib.Core.Path.{◌≡◌, refl, ap, ◌∙◌}
+use mathlib.Core.Path.{◌≡◌, refl, sym, ap, ◌∙◌}
 use mathlib.Core.List.{List}
 use native.Mathlib.Omega.{arith}
 use native.Mathlib.Nat.{mul-le-mul}
@@ -11,14 +12,10 @@ use Rattle.model.specs.declared.Candidate.TheVariants.{Regions}
 use Rattle.model.specs.Lists.{row_of}
 use Rattle.model.proofs.Lists.{rows_apart}
 use Rattle.planes.proofs.Splices.{part_length}
-use Rattle.fill.specs.Rows.{room_of, filled_row}
-use Rattle.fill.proofs.Rows.{row_wide, rows_more, made_full, made_flat, made_regions, made_tree}
+use Rattle.fill.specs.Rows.{RowThere, room_of, filled_row}
+use Rattle.fill.proofs.Rows.{row_wide, rows_more, made_full, made_flat, made_regions}
 use Rattle.fill.proofs.fill_rows.Statement.{statement}
 use Rattle.fill.proofs.fill_rows.Tie as tie
-
-holds : (c : Candidate) {value0 value1 : ℕ} {split : Split} (w n : ℕ) (room : List ℕ) → c ≡ Regions value0 value1 split → length room ≡ room_of w c n → length room ≡ n * w
-unfolding room_of
-holds c w n room e l = rw e at l
 
 abbrev invariant-loop : tie.invariant-loop
 invariant-loop bytes width i n room₀ value0 value1 split k₀ room k =
@@ -44,6 +41,11 @@ add-to c =
 
 add-fill-regions : tie.Need-overflow-add-fill-regions invariant-loop decreases-loop
 add-fill-regions c = omega arith
+
+-- the room holds the n rows
+holds : (c : Candidate) {value0 value1 : ℕ} {split : Split} (w n : ℕ) (room : List ℕ) → c ≡ Regions value0 value1 split → length room ≡ room_of c (n * w) → length room ≡ n * w
+unfolding room_of
+holds c w n room e l = rw e at l
 
 part-fill-regions-end : tie.Need-slice-bounds-fill-regions-end invariant-loop decreases-loop
 part-fill-regions-end c =
@@ -103,11 +105,6 @@ returns-3 c =
     made_regions s.args.width s.args.candidate _ s.args.i s.args.n _ _ c.before.before.before.candidate.given.1 l.invariant.1.0
     (λ k h. l.invariant.1.1 k (omega arith))
 
-returns-4 : tie.Need-returns-4 invariant-loop decreases-loop
-returns-4 c =
-    let s = c.before.before.before.before in
-    made_tree s.args.width s.args.candidate _ s.args.i s.args.n _ c.enum-told3.given.1 s.requires.1.1
-
 pub fill-rows-spec : {M : Type 1} → statement M
 fill-rows-spec =
     tie.close
@@ -128,9 +125,7 @@ fill-rows-spec =
     add-k
     loop-less
     loop-again
-    (λ c. search rules)
     returns
     returns-2
     same_length
-    returns-3
-    returns-4)
+    returns-3)

@@ -4,6 +4,7 @@ use native.Mathlib.Omega.{arith}
 use mir.Facts.{to_z-of_z}
 use mir.Syntax.{w64}
 use mir.Val.{SFits}
+use lib.ListN.{length}
 use Rattle.model.specs.Planes.{pictures, depths}
 use Rattle.validate.proofs.Numbers.{early_number_lem}
 use Rattle.decide.specs.Decided.{held_of}
@@ -18,7 +19,7 @@ returns c =
     let p = pictures a.left.now a.right.now a.reference.now in
     let d = depths a.leftDepths.now a.rightDepths.now in
     let h = held_of a.leftSamples.now a.leftFronts.now a.leftLimits.now a.leftMarks.now a.rightSamples.now a.rightFronts.now a.rightLimits.now a.rightMarks.now a.combined.now in
-    let found = c.before.before.set-refusal.ensures ∙ early_number_lem a.t1 p d h a.view a.block a.candidate a.bytes.now in
+    let found = c.before.before.set-refusal.ensures ∙ early_number_lem a.t1 p d h a.view a.block a.candidate (length a.bytes.now) in
     set_refused a.t1 p d h a.journal.now a.view a.block a.candidate a.bytes.now c.before.before.set-refusal.result found (λ z. c.if1.true (c.before.number.ensures ∙ z))
     (record { left = λ i. omega (arith, c.before.before.before.before.before.before.before.before.before.before.before.before.before.before.before.before.before.slice-known.given i); right = λ i. omega (arith, c.before.before.before.before.before.before.before.before.before.before.before.before.before.before.before.before.slice-known2.given i) })
 
@@ -29,7 +30,7 @@ settle-view-requires c κs =
     let p = pictures a.left.now a.right.now a.reference.now in
     let d = depths a.leftDepths.now a.rightDepths.now in
     let h = held_of a.leftSamples.now a.leftFronts.now a.leftLimits.now a.leftMarks.now a.rightSamples.now a.rightFronts.now a.rightLimits.now a.rightMarks.now a.combined.now in
-    let found = c.before.before.before.before.before.before.before.before.before.before.before.before.before.before.before.before.before.set-refusal.ensures ∙ early_number_lem a.t1 p d h a.view a.block a.candidate a.bytes.now in
+    let found = c.before.before.before.before.before.before.before.before.before.before.before.before.before.before.before.before.before.set-refusal.ensures ∙ early_number_lem a.t1 p d h a.view a.block a.candidate (length a.bytes.now) in
     sym found ∙ sym c.before.before.before.before.before.before.before.before.before.before.before.before.before.before.before.before.number.ensures ∙ c.before.before.before.before.before.before.before.before.before.before.before.before.before.before.before.if1.false
 
 returns-2 : tie.Need-returns-2
@@ -39,7 +40,7 @@ returns-2 c =
     let p = pictures a.left.now a.right.now a.reference.now in
     let d = depths a.leftDepths.now a.rightDepths.now in
     let h = held_of a.leftSamples.now a.leftFronts.now a.leftLimits.now a.leftMarks.now a.rightSamples.now a.rightFronts.now a.rightLimits.now a.rightMarks.now a.combined.now in
-    let found = c.before.before.before.before.before.before.before.before.before.before.before.before.before.before.before.before.before.before.before.before.before.before.before.before.before.before.before.before.before.before.before.before.before.before.before.before.before.before.before.before.before.set-refusal.ensures ∙ early_number_lem a.t1 p d h a.view a.block a.candidate a.bytes.now in
+    let found = c.before.before.before.before.before.before.before.before.before.before.before.before.before.before.before.before.before.before.before.before.before.before.before.before.before.before.before.before.before.before.before.before.before.before.before.before.before.before.before.before.before.set-refusal.ensures ∙ early_number_lem a.t1 p d h a.view a.block a.candidate (length a.bytes.now) in
     let settling = c.before.before.before.before.before.before.before.before.before.before.before.before.before.before.before.before.before.before.before.before.before.before.before.settle-view in
     let fits : SFits w64 settling.result.change = record { sfits = c.struct_told.given.1.0.1 } in
     set_settled a.t1 p d h a.journal.now a.view a.block a.candidate a.bytes.now settling.result _ (to_z-of_z fits) _ _ _ (sym found ∙ sym c.before.before.before.before.before.before.before.before.before.before.before.before.before.before.before.before.before.before.before.before.before.before.before.before.before.before.before.before.before.before.before.before.before.before.before.before.before.before.before.before.number.ensures ∙ c.before.before.before.before.before.before.before.before.before.before.before.before.before.before.before.before.before.before.before.before.before.before.before.before.before.before.before.before.before.before.before.before.before.before.before.before.before.before.before.if1.false) settling.ensures.0 settling.ensures.1

@@ -19,22 +19,7 @@ returns-3 c =
 returns-4 : tie.Need-returns-4
 unfolding candidate_of
 returns-4 c =
-    rw (
-      ne_eqb _ _ c.before.before.before.before.before.before.if1.false,
-      ne_eqb _ _ c.before.before.before.before.if2.false,
-      ne_eqb _ _ c.before.before.if3.false,
-      eq-eqb _ _ c.if4.true,
-    )
-
-returns-5 : tie.Need-returns-5
-unfolding candidate_of
-returns-5 c =
-    rw (
-      ne_eqb _ _ c.before.before.before.before.before.before.if1.false,
-      ne_eqb _ _ c.before.before.before.before.if2.false,
-      ne_eqb _ _ c.before.before.if3.false,
-      ne_eqb _ _ c.if4.false,
-    )
+    rw (ne_eqb _ _ c.before.before.before.before.if1.false, ne_eqb _ _ c.before.before.if2.false, ne_eqb _ _ c.if3.false)
 
 pub candidate-of-spec : {M : Type 1} → statement M
-candidate-of-spec = tie.close (tie.spec returns returns-2 returns-3 returns-4 returns-5)
+candidate-of-spec = tie.close (tie.spec returns returns-2 returns-3 returns-4)

@@ -12,7 +12,7 @@ use Rattle.model.specs.Combined.{worst}
 use Rattle.planes.specs.Parts.{block_of}
 use Rattle.fill.specs.Rows.{Started}
 use Rattle.fill.proofs.Rows.{row_there}
-use Rattle.fill.proofs.Rooms.{room_holds, room_some, room_made, by_rows, started_part, started_back, front_back}
+use Rattle.fill.proofs.Rooms.{room_holds, room_some, room_made, started_part, started_back, front_back}
 use Rattle.strips.specs.Strips.{around, own}
 use Rattle.trial.specs.Trial.{BlockTrial}
 use Rattle.trial.proofs.Blocks.{block_none, block_small, block_made}
@@ -21,7 +21,7 @@ use Rattle.trial.proofs.trial_by_rooms.Tie as tie
 
 abbrev invariant-loop : tie.invariant-loop
 invariant-loop tear right table share tolerance w h column row width height texture depths limits candidate bytes room₀ samples fronts marks combined reference most old₀ new₀ done₀ room old new done =
-    (done ≤ height) × ((length room ≡ length room₀) × ((Started width candidate bytes room)
+    (done ≤ height) × ((length room ≡ length room₀) × ((Started candidate room)
     × BlockTrial w (around right share tolerance samples fronts marks combined reference) (own tear table texture depths limits) (block_of column row width height) (filled (block_of column row width height) candidate bytes) done old new))
 
 abbrev decreases-loop : tie.decreases-loop
@@ -61,9 +61,7 @@ div_most : tie.Need-nonzero-div-most invariant-loop decreases-loop
 div_most c = let f = c.before.before.before.before.before.before.before.before.before.requires in omega (arith, f.1.1.0.0.some)
 
 start-requires : tie.Need-start-requires invariant-loop decreases-loop
-start-requires c κs =
-    let s = c.before.before.before.before.before.before.before.before.before.before in
-    by_rows s.args.width s.args.candidate _ _ s.requires.1.1.1.1.0
+start-requires c κs = tt
 
 loop-holds : tie.Need-loop-init invariant-loop decreases-loop
 loop-holds c =
@@ -78,13 +76,13 @@ fewer-requires : tie.Need-fewer-requires invariant-loop decreases-loop
 fewer-requires c κs =
     let s = c.before.before.before.before.before.before.before.before.before.before.before.before.before.before.before in
     let a = s.args in
-    (room_some (length a.room.now) a.width s.requires.1.1.0.0.some s.requires.1.1.1.1.1.0, omega (arith, c.loop-test.true))
+    (room_some (length a.room.now) a.width s.requires.1.1.0.0.some s.requires.1.1.1.1.0, omega (arith, c.loop-test.true))
 
 mul-end : tie.Need-overflow-mul-end invariant-loop decreases-loop
 mul-end c =
     let s = c.before.before.before.before.before.before.before.before.before.before.before.before.before.before.before.before in
     let a = s.args in
-    omega (arith, s.requires.1.1.1.1.1.1, room_holds c.fewer.result (length a.room.now) a.width c.fewer.ensures.1.0)
+    omega (arith, s.requires.1.1.1.1.1, room_holds c.fewer.result (length a.room.now) a.width c.fewer.ensures.1.0)
 
 slice-relend-prefix-fill-rows : tie.Need-slice-relend-prefix-fill-rows invariant-loop decreases-loop
 slice-relend-prefix-fill-rows c =
@@ -113,7 +111,7 @@ fill-rows-requires c κs =
     let wide : a.width ≤ 4096 = omega (arith, f.right, f.wide) in
     let high : a.height ≤ 4096 = omega (arith, f.bottom, f.high) in (
       (λ k h. row_there b a.bytes.now (l.done + k) (row_in _ _ _ _ h more) a.candidate wide high s.requires.1.1.0.1, (wide, omega (arith, more, high))),
-      (length-take-le (n * a.width) l.room m ∙ sym (room_made a.width a.candidate n s.requires.1.1.1.0 s.requires.1.1.1.1.0), started_part a.width a.candidate a.bytes.now l.room (n * a.width) s.requires.1.1.1.1.0 m l.invariant.1.1.0),
+      (length-take-le (n * a.width) l.room m ∙ sym (room_made a.candidate (n * a.width) s.requires.1.1.1.0), started_part a.candidate l.room (n * a.width) m l.invariant.1.1.0),
     )
 
 add-trial-block : tie.Need-overflow-add-trial-block invariant-loop decreases-loop
@@ -175,7 +173,7 @@ add-old c =
     let o = around a.right a.share a.tolerance a.samples.now a.fronts.now a.marks.now a.combined.now a.reference.now in
     let v = own a.tear a.table.now a.texture.now a.depths.now a.limits.now in
     let more : l.done + n ≤ a.height = more-in _ _ _ c.before.before.before.before.before.before.before.fewer.ensures.1.1 c.before.before.before.before.before.before.before.before.loop-test.true in
-    let next = block_made b a.candidate a.bytes.now l.room c.before.before.before.before.before.fill-rows.new.1.1.1.1.1.0 l.done n more s.requires.1.1.1.0 s.requires.1.1.1.1.0 m c.before.before.before.before.before.fill-rows.ensures l.invariant.1.1.1 c.before.trial-block.ensures in
+    let next = block_made b a.candidate a.bytes.now l.room c.before.before.before.before.before.fill-rows.new.1.1.1.1.1.0 l.done n more s.requires.1.1.1.0 m c.before.before.before.before.before.fill-rows.ensures l.invariant.1.1.1 c.before.trial-block.ensures in
     sum_fits _ (block_small a.w o v b (filled b a.candidate a.bytes.now) next s.requires.1.1.0.0 s.requires.1.0.depths more).0
 
 add-new : tie.Need-overflow-add-new invariant-loop decreases-loop
@@ -189,7 +187,7 @@ add-new c =
     let o = around a.right a.share a.tolerance a.samples.now a.fronts.now a.marks.now a.combined.now a.reference.now in
     let v = own a.tear a.table.now a.texture.now a.depths.now a.limits.now in
     let more : l.done + n ≤ a.height = more-in _ _ _ c.before.before.before.before.before.before.before.before.fewer.ensures.1.1 c.before.before.before.before.before.before.before.before.before.loop-test.true in
-    let next = block_made b a.candidate a.bytes.now l.room c.before.before.before.before.before.before.fill-rows.new.1.1.1.1.1.0 l.done n more s.requires.1.1.1.0 s.requires.1.1.1.1.0 m c.before.before.before.before.before.before.fill-rows.ensures l.invariant.1.1.1 c.before.before.trial-block.ensures in
+    let next = block_made b a.candidate a.bytes.now l.room c.before.before.before.before.before.before.fill-rows.new.1.1.1.1.1.0 l.done n more s.requires.1.1.1.0 m c.before.before.before.before.before.before.fill-rows.ensures l.invariant.1.1.1 c.before.before.trial-block.ensures in
     sum_fits _ (block_small a.w o v b (filled b a.candidate a.bytes.now) next s.requires.1.1.0.0 s.requires.1.0.depths more).1
 
 add_done : tie.Need-overflow-add-done invariant-loop decreases-loop
@@ -211,9 +209,9 @@ loop-again c =
     let o = around a.right a.share a.tolerance a.samples.now a.fronts.now a.marks.now a.combined.now a.reference.now in
     let v = own a.tear a.table.now a.texture.now a.depths.now a.limits.now in
     let more : l.done + n ≤ a.height = more-in _ _ _ c.before.before.before.before.before.before.before.before.fewer.ensures.1.1 c.before.before.before.before.before.before.before.before.before.loop-test.true in
-    let next = block_made b a.candidate a.bytes.now l.room c.before.before.before.before.before.before.fill-rows.new.1.1.1.1.1.0 l.done n more s.requires.1.1.1.0 s.requires.1.1.1.1.0 m c.before.before.before.before.before.before.fill-rows.ensures l.invariant.1.1.1 c.before.before.trial-block.ensures in
+    let next = block_made b a.candidate a.bytes.now l.room c.before.before.before.before.before.before.fill-rows.new.1.1.1.1.1.0 l.done n more s.requires.1.1.1.0 m c.before.before.before.before.before.before.fill-rows.ensures l.invariant.1.1.1 c.before.before.trial-block.ensures in
     let e = front_back l.room c.before.before.before.before.before.before.fill-rows.new.1.1.1.1.1.0 (n * a.width) m c.before.before.before.before.before.before.fill-rows.ensures.size in
-    (more, (e.1.0 ∙ l.invariant.1.0, (started_back a.width a.candidate a.bytes.now l.room c.before.before.before.before.before.before.fill-rows.new.1.1.1.1.1.0 (n * a.width) s.requires.1.1.1.1.0 m e.0 l.invariant.1.1.0 c.before.before.before.before.before.before.fill-rows.ensures.started, next)))
+    (more, (e.1.0 ∙ l.invariant.1.0, (started_back a.candidate l.room c.before.before.before.before.before.before.fill-rows.new.1.1.1.1.1.0 (n * a.width) m e.0 l.invariant.1.1.0 c.before.before.before.before.before.before.fill-rows.ensures.started, next)))
 
 same_length : tie.Need-same-length invariant-loop decreases-loop
 same_length c = c.before.loop.invariant.1.0 ∙ c.before.before.before.before.start.ensures.1

@@ -1,172 +1,96 @@
 //! A small search, as an encoder makes it: for each unit of a view, a block of 8 × 8, many candidates are tried. They are those
 //! of Test Model 8's depth modes: one value for the block; two regions parted by a line between border points; two regions told
-//! by the texture of the block, 1 where a sample is above their mean. Besides, a tree splits the block into quarters of one value
-//! each. The units of a block of 16 × 16 are set one after the other, since each depends on those before it. Then that block is
-//! tried as one tree, whose nodes are what the search of its units found. Where the tree is better, the units are taken back and
-//! it is set.
+//! by the texture of the block, 1 where a sample is above their mean. Then the unit is coded as four quarters of one value each,
+//! one after the other, since each depends on those before it. Where that is worse, the quarters are taken back and the best
+//! candidate for the whole unit is set.
 
 use luphwezane::{Block, Candidate, Point, Refusal, Regions, Session, View};
 
-/// The side of a unit, and of a large unit, which has four of them.
+/// The side of a unit.
 pub const SIDE: u32 = 8;
-pub const LARGE: u32 = 2 * SIDE;
 
 /// How far around a block depths are looked for.
 const REACH: u32 = 16;
 
-/// What it costs to send one value, or two with their regions, for a block, and that a block is coded in quarters: so many of
+/// What it costs to send one value, or two with their regions, for a block, and that a unit is coded in quarters: so many of
 /// them cost as much as the greatest squared error.
 const FLATS: i64 = 130;
 const SPLITS: i64 = 65;
 const QUARTERS: i64 = 520;
 
-/// Of so many values, the best as flat blocks, two are tried for regions, and four for the quarters of a tree.
+/// Of so many values, the best as flat blocks, two are tried for regions.
 const VALUES: usize = 5;
 
-/// How many units were set to one value, by a line, by a mask and by a tree.
-#[derive(Clone, Copy, Default)]
-pub struct Units {
-    pub values: u64,
-    pub lines: u64,
-    pub masks: u64,
-    pub trees: u64,
-}
-
-impl Units {
-    fn count(&mut self, candidate: Candidate) {
-        match candidate {
-            Candidate::Regions { regions: Regions::Line { .. }, .. } => self.lines += 1,
-            Candidate::Regions { regions: Regions::Mask(_), .. } => self.masks += 1,
-            Candidate::Tree(_) => self.trees += 1,
-            _ => self.values += 1,
-        }
-    }
-
-    fn add(&mut self, other: &Units) {
-        self.values += other.values;
-        self.lines += other.lines;
-        self.masks += other.masks;
-        self.trees += other.trees;
-    }
-}
-
-/// What passes over a view did: the trials, the units set and not taken back, the large units set by a tree, those whose units were
-/// taken back for it, and the change.
+/// What a pass over one view did: the trials, the units set to one value, by a line, by a mask and as quarters, those whose
+/// quarters were taken back, and the change.
 #[derive(Default)]
 pub struct Pass {
     pub trials: u64,
-    pub units: Units,
-    pub large_trees: u64,
+    pub values: u64,
+    pub lines: u64,
+    pub masks: u64,
+    pub quarters: u64,
     pub backed_out: u64,
     pub change: i64,
 }
 
+/// Goes over the units of one view by rows. The pictures have samples up to `largest`; `progress` is told how many of how many
+/// units are done.
+pub fn pass(session: &mut Session, view: View, largest: u16, mut progress: impl FnMut(usize, usize)) -> Result<Pass, Refusal> {
+    let whole = Block { column: 0, row: 0, width: session.settings().w, height: session.settings().h };
+    let units = parts(whole, SIDE);
+    let mut pass = Pass::default();
+    for (done, &block) in units.iter().enumerate() {
+        progress(done, units.len());
+        pass.decide(session, view, block, i64::from(largest).pow(2))?;
+    }
+    Ok(pass)
+}
+
 impl Pass {
-    pub fn add(&mut self, other: &Pass) {
-        self.trials += other.trials;
-        self.units.add(&other.units);
-        self.large_trees += other.large_trees;
-        self.backed_out += other.backed_out;
-        self.change += other.change;
-    }
-}
-
-/// A search over a session. The pictures have samples up to `largest`.
-pub struct Search<'a> {
-    pub session: &'a mut Session,
-    pub largest: u16,
-    /// Whether trees are tried.
-    pub with_trees: bool,
-}
-
-impl Search<'_> {
-    /// Goes over the large units of one view by rows. `progress` is told how many of how many are done.
-    pub fn pass(&mut self, view: View, mut progress: impl FnMut(usize, usize)) -> Result<Pass, Refusal> {
-        let whole = Block { column: 0, row: 0, width: self.session.settings().w, height: self.session.settings().h };
-        let units = parts(whole, LARGE);
-        let mut pass = Pass::default();
-        for (done, &unit) in units.iter().enumerate() {
-            progress(done, units.len());
-            self.decide(&mut pass, view, unit)?;
-        }
-        Ok(pass)
-    }
-
-    /// Decides how a large unit is coded, and keeps it so.
-    fn decide(&mut self, pass: &mut Pass, view: View, large: Block) -> Result<(), Refusal> {
-        let mut coded = self.set_units(pass, view, large)?;
-        if self.has_tree(large, LARGE) {
-            let mut trials = Trials::new(self.session, view, large, self.worst());
-            let (cost, tree) = trials.large_tree(&coded.nodes)?;
-            pass.trials += trials.made;
-            if coded.change + cost < coded.cost.min(0) {
-                for _ in 0..coded.sets {
-                    coded.change += self.session.take_back()?;
+    /// Decides how a unit is coded, and keeps it so. `worst` is the greatest squared error.
+    fn decide(&mut self, session: &mut Session, view: View, unit: Block, worst: i64) -> Result<(), Refusal> {
+        let mask = contour(session, view, unit);
+        let mut trials = Trials::new(session, view, unit, worst);
+        let (cost, candidate) = trials.best(&mask)?;
+        self.trials += trials.made;
+        let (quarters_cost, sets) = self.set_quarters(session, view, unit, worst)?;
+        if sets > 0 && quarters_cost + worst / QUARTERS < cost.min(0) {
+            self.quarters += 1;
+        } else {
+            for _ in 0..sets {
+                self.change += session.take_back()?;
+            }
+            self.backed_out += u64::from(sets > 0);
+            if cost < 0 {
+                self.change += session.set(view, unit, candidate)?;
+                match candidate {
+                    Candidate::Regions { regions: Regions::Line { .. }, .. } => self.lines += 1,
+                    Candidate::Regions { regions: Regions::Mask(_), .. } => self.masks += 1,
+                    _ => self.values += 1,
                 }
-                coded.change += self.session.set(view, large, Candidate::Tree(&tree))?;
-                coded.units = Units::default();
-                pass.backed_out += u64::from(coded.sets > 0);
-                pass.large_trees += 1;
             }
         }
-        pass.change += coded.change;
-        pass.units.add(&coded.units);
-        self.session.keep();
+        session.keep();
         Ok(())
     }
 
-    /// Sets each unit of a large one to its best candidate, where that is better than what it has.
-    fn set_units(&mut self, pass: &mut Pass, view: View, large: Block) -> Result<Coded, Refusal> {
-        let (worst, mut coded) = (self.worst(), Coded::default());
-        for unit in parts(large, SIDE) {
-            let mask = contour(self.session, view, unit);
-            let mut trials = Trials::new(self.session, view, unit, worst);
-            let flats = trials.flats()?;
-            let split = if self.has_tree(unit, SIDE) { Some(trials.quarters()?) } else { None };
-            let (cost, candidate) = trials.best(&flats, &mask, split.as_ref())?;
-            pass.trials += trials.made;
+    /// Sets each quarter of a unit to its best value, where that is better than what it has. Answers the cost and how many were
+    /// set. A unit at an edge may have two quarters, or be no larger than one and have none.
+    fn set_quarters(&mut self, session: &mut Session, view: View, unit: Block, worst: i64) -> Result<(i64, usize), Refusal> {
+        let (quarters, mut sum, mut sets) = (parts(unit, SIDE / 2), 0, 0);
+        for &quarter in quarters.iter().filter(|_| quarters.len() > 1) {
+            let mut trials = Trials::new(session, view, quarter, worst);
+            let (cost, depth) = trials.flats()?[0];
+            self.trials += trials.made;
             if cost < 0 {
-                coded.change += self.session.set(view, unit, candidate)?;
-                coded.cost += cost;
-                coded.sets += 1;
-                coded.units.count(candidate);
+                self.change += session.set(view, quarter, Candidate::Flat(depth))?;
+                sum += cost;
+                sets += 1;
             }
-            coded.nodes.push([Some(leaf(flats[0].1)), split.map(|(_, tree)| tree)]);
         }
-        coded.cost += if coded.sets > 0 { worst / QUARTERS } else { 0 };
-        Ok(coded)
+        Ok((sum, sets))
     }
-
-    /// The greatest squared error.
-    fn worst(&self) -> i64 {
-        i64::from(self.largest).pow(2)
-    }
-
-    /// Whether trees are tried for a block: one at an edge may be no square of this side.
-    fn has_tree(&self, block: Block, side: u32) -> bool {
-        self.with_trees && (block.width, block.height) == (side, side)
-    }
-}
-
-/// A large unit, coded as units: what that costs, how the total changed, how many were set and to what, and for each unit the nodes
-/// that it may be in a tree, flat and split.
-#[derive(Default)]
-struct Coded {
-    cost: i64,
-    change: i64,
-    sets: usize,
-    units: Units,
-    nodes: Vec<[Option<Vec<u8>>; 2]>,
-}
-
-/// A flat node of a tree.
-fn leaf(value: u8) -> Vec<u8> {
-    vec![0, value]
-}
-
-/// A node that is split into these.
-fn split(nodes: [Vec<u8>; 4]) -> Vec<u8> {
-    nodes.into_iter().fold(vec![1], |bytes, node| [bytes, node].concat())
 }
 
 /// The parts of a block that have this side, by rows; those at its right and lower edge may be smaller.
@@ -196,13 +120,14 @@ struct Trials<'a> {
     session: &'a Session,
     view: View,
     block: Block,
-    worst: i64,
+    flat_cost: i64,
+    split_cost: i64,
     made: u64,
 }
 
 impl Trials<'_> {
     fn new(session: &Session, view: View, block: Block, worst: i64) -> Trials<'_> {
-        Trials { session, view, block, worst, made: 0 }
+        Trials { session, view, block, flat_cost: worst / FLATS, split_cost: worst / SPLITS, made: 0 }
     }
 
     /// Values for the whole block and their costs, the least first.
@@ -215,48 +140,9 @@ impl Trials<'_> {
         Ok(flats)
     }
 
-    /// The best tree of four leaves: first with the best value of each quarter on its own, then with one of them at a time replaced
-    /// by another of its best few, as long as the tree is better.
-    fn quarters(&mut self) -> Result<(i64, Vec<u8>), Refusal> {
-        let mut values = Vec::new();
-        for quarter in parts(self.block, SIDE / 2) {
-            let mut trials = Trials::new(self.session, self.view, quarter, self.worst);
-            values.push(trials.flats()?.into_iter().take(VALUES).map(|(_, value)| value).collect::<Vec<u8>>());
-            self.made += trials.made;
-        }
-        let tree = |leaves: [u8; 4]| split(leaves.map(leaf));
-        let mut best = [0, 1, 2, 3].map(|k| values[k][0]);
-        let mut least = self.cost(Candidate::Tree(&tree(best)))?;
-        loop {
-            let before = least;
-            for (k, value) in values.iter().enumerate().flat_map(|(k, values)| values.iter().map(move |&value| (k, value))) {
-                let mut tried = best;
-                tried[k] = value;
-                let cost = if tried == best { least } else { self.cost(Candidate::Tree(&tree(tried)))? };
-                if cost < least {
-                    (least, best) = (cost, tried);
-                }
-            }
-            if least == before {
-                return Ok((least, tree(best)));
-            }
-        }
-    }
-
-    /// The best tree of a large unit: one leaf with the value of one of its units, or a split in which each unit is one of its nodes.
-    fn large_tree(&mut self, nodes: &[[Option<Vec<u8>>; 2]]) -> Result<(i64, Vec<u8>), Refusal> {
-        let node = |unit: usize, way: usize| nodes[unit][way].clone().expect("the units of a large one are squares");
-        let leaves = (0..4).map(|unit| node(unit, 0));
-        let splits = (0..16).map(|ways| split([0, 1, 2, 3].map(|unit| node(unit, ways >> unit & 1))));
-        let mut trees = Vec::new();
-        for tree in leaves.chain(splits) {
-            trees.push((self.cost(Candidate::Tree(&tree))?, tree));
-        }
-        Ok(trees.into_iter().min().expect("there are trees"))
-    }
-
-    /// The candidate with the least cost: of one value, of regions, or the tree, whose cost is known.
-    fn best<'m>(&mut self, flats: &[(i64, u8)], mask: &'m [u8], tree: Option<&'m (i64, Vec<u8>)>) -> Result<(i64, Candidate<'m>), Refusal> {
+    /// The candidate with the least cost.
+    fn best<'m>(&mut self, mask: &'m [u8]) -> Result<(i64, Candidate<'m>), Refusal> {
+        let flats = self.flats()?;
         let depths: Vec<u8> = flats.iter().take(VALUES).map(|&(_, depth)| depth).collect();
         let mut best = (flats[0].0, Candidate::Flat(flats[0].1));
         let values = pairs(&depths);
@@ -271,10 +157,7 @@ impl Trials<'_> {
                 best = (cost, line.candidate());
             }
         }
-        Ok(match tree {
-            Some((cost, tree)) if *cost < best.0 => (*cost, Candidate::Tree(tree)),
-            _ => best,
-        })
+        Ok(best)
     }
 
     /// The best line with two of these values: first among few lines, then with its ends moved along the border, a point at a
@@ -321,18 +204,10 @@ impl Trials<'_> {
         (far..=near).step_by(1 + usize::from(near - far) / 64).collect()
     }
 
-    /// The change of the total and what the candidate costs to send: of a tree its leaves and its splits. A tree has three leaves
-    /// more with each split, and one byte of tag a node and one of depth a leaf.
+    /// The change of the total and what the candidate costs to send.
     fn cost(&mut self, candidate: Candidate) -> Result<i64, Refusal> {
         self.made += 1;
-        let sent = match candidate {
-            Candidate::Flat(_) => self.worst / FLATS,
-            Candidate::Tree(bytes) => {
-                let splits = (bytes.len() as i64 - 2) / 7;
-                (1 + 3 * splits) * (self.worst / FLATS) + splits * (self.worst / QUARTERS)
-            }
-            _ => self.worst / SPLITS,
-        };
+        let sent = if let Candidate::Flat(_) = candidate { self.flat_cost } else { self.split_cost };
         Ok(self.session.get(self.view, self.block, candidate)? + sent)
     }
 }

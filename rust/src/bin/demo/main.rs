@@ -1,8 +1,8 @@
 //! A first session to look at. An encoder-like search improves two coarse depth maps: for each unit it tries a few hundred
-//! candidates with GET and sets the best, and where one tree is better for four units it takes these back and sets the tree. The
-//! same search without trees is printed beside it. In one row every depth is tried in every column, beside the bound of its
-//! change. Two neighbouring units are set in both orders, and taken back. Then the seat moves from the left camera to the right
-//! one, over the depths that the search found. It prints two tables and writes pictures.
+//! candidates with GET, sets its quarters one by one, and takes them back where one candidate for the whole unit is better. In
+//! one row every depth is tried in every column, beside the bound of its change. Two neighbouring units are set in both orders, and
+//! taken back. Then the seat moves from the left camera to the right one, over the depths that the search found. It prints two
+//! tables and writes pictures.
 
 mod encoder;
 mod order;
@@ -10,7 +10,6 @@ mod pgm;
 mod reach;
 mod scene;
 
-use encoder::{Pass, Units};
 use luphwezane::{Block, Pictures, Report, Session, Settings, View, GREATEST_SAMPLE};
 use pgm::Picture;
 use std::io::{IsTerminal, Write};
@@ -153,8 +152,7 @@ fn run(options: &Options) -> Result<(), String> {
     let depths = [&input.depths[0][..], &input.depths[1][..]];
     let mut session = Session::open(&settings, &pictures, depths).map_err(|refusal| refusal.to_string())?;
 
-    let (side, large) = (encoder::SIDE, encoder::LARGE);
-    println!("Luphwezane: {}, {} × {}, units of {side} × {side} and {large} × {large}", input.name, input.w, input.h);
+    println!("Luphwezane: {}, {} × {}, units of {} × {}", input.name, input.w, input.h, encoder::SIDE, encoder::SIDE);
     println!();
     search(&mut session, &options.out, input.largest)?;
     println!();
@@ -166,19 +164,15 @@ fn run(options: &Options) -> Result<(), String> {
 
 /// Improves the depths, and prints the table of it.
 fn search(session: &mut Session, out: &Path, largest: u16) -> Result<(), String> {
-    let units = ["one value", "line", "mask", "8 × 8 tree", "16 × 16 tree", "backed out"];
-    let [values, lines, masks, trees, large_trees, backed_out] = units;
-    print_line(["step", "trials", values, lines, masks, trees, large_trees, backed_out, "change of total", "total", "PSNR"]);
-    print_line(["open", "", "", "", "", "", "", "", "", &thousands(session.total() as i64), &psnr(session, largest)]);
+    print_line(["step", "trials", "one value", "line", "mask", "quarters", "backed out", "change of total", "total", "PSNR"]);
+    print_line(["open", "", "", "", "", "", "", "", &thousands(session.total() as i64), &psnr(session, largest)]);
     write_inputs(out, session, largest)?;
     write_outputs(out, "before", session, largest)?;
-    let mut other = session.clone();
-    let (all, without) = std::thread::scope(|scope| {
-        let without = scope.spawn(|| improve(&mut other, largest, false));
-        (improve(session, largest, true), without.join().expect("the search without trees ends"))
-    });
-    print_pass("all four", session, &all?, largest);
-    print_pass("without trees", &other, &without?, largest);
+    for round in 1..=2 {
+        for view in View::BOTH {
+            improve(session, view, largest, round)?;
+        }
+    }
     write_outputs(out, "after", session, largest)?;
     println!();
     print_check(session)?;
@@ -265,38 +259,25 @@ fn print_seat([seat, share, left, right, left_holes, right_holes, total, psnr]: 
     println!("{seat:<15} {share:>5}   {left:>10}   {right:>11}   {left_holes:>10}   {right_holes:>11}   {total:>13}   {psnr:>8}");
 }
 
-/// Two rounds over both views, and what they did together. With trees each pass has a line of the table, and shows its progress.
-fn improve(session: &mut Session, largest: u16, with_trees: bool) -> Result<Pass, String> {
-    let mut search = encoder::Search { session, largest, with_trees };
-    let mut all = Pass::default();
-    for (round, view) in (1..=2).flat_map(|round| View::BOTH.map(|view| (round, view))) {
-        let name = format!("{}, round {round}", if view == View::Left { "left" } else { "right" });
-        let mut progress = with_trees.then(|| Progress::new(&name));
-        let show = |done, all| progress.iter_mut().for_each(|progress| progress.show(done, all));
-        let pass = search.pass(view, show).map_err(|refusal| refusal.to_string())?;
-        if let Some(progress) = progress {
-            progress.clear();
-            print_pass(&name, search.session, &pass, largest);
-        }
-        all.add(&pass);
-    }
-    Ok(all)
+/// One pass over a view, and its line of the table.
+fn improve(session: &mut Session, view: View, largest: u16, round: u32) -> Result<(), String> {
+    let name = format!("{}, round {round}", if view == View::Left { "left" } else { "right" });
+    let mut progress = Progress::new(&name);
+    let pass = encoder::pass(session, view, largest, |done, all| progress.show(done, all)).map_err(|refusal| refusal.to_string())?;
+    progress.clear();
+    let counts = [pass.trials, pass.values, pass.lines, pass.masks, pass.quarters, pass.backed_out];
+    let [trials, values, lines, masks, quarters, backed_out] = counts.map(|count| thousands(count as i64));
+    let (change, total) = (thousands(pass.change), thousands(session.total() as i64));
+    print_line([&name, &trials, &values, &lines, &masks, &quarters, &backed_out, &change, &total, &psnr(session, largest)]);
+    Ok(())
 }
 
-/// The line of a pass, or of several.
-fn print_pass(name: &str, session: &Session, pass: &Pass, largest: u16) {
-    let Units { values, lines, masks, trees } = pass.units;
-    let counts = [pass.trials, values, lines, masks, trees, pass.large_trees, pass.backed_out];
-    let [trials, values, lines, masks, trees, large_trees, backed_out] = counts.map(|count| thousands(count as i64));
-    let (change, total, psnr) = (thousands(pass.change), thousands(session.total() as i64), psnr(session, largest));
-    print_line([name, &trials, &values, &lines, &masks, &trees, &large_trees, &backed_out, &change, &total, &psnr]);
-}
-
-/// A line of the table; between trials and change, how many units were set to a candidate of each kind, how many large units to a
-/// tree, and of how many the units were taken back for it.
-fn print_line([step, trials, values, lines, masks, trees, large_trees, backed_out, change, total, psnr]: [&str; 11]) {
-    let units = format!("{values:>9} {lines:>6} {masks:>6} {trees:>12} {large_trees:>14} {backed_out:>12}");
-    println!("{step:<14} {trials:>9}   {units}   {change:>15}   {total:>13}   {psnr:>8}");
+/// A line of the table; between trials and change, how many units were set to a candidate of each kind and as quarters, and of
+/// how many the quarters were taken back.
+fn print_line([step, trials, values, lines, masks, quarters, backed_out, change, total, psnr]: [&str; 10]) {
+    println!(
+        "{step:<14} {trials:>9}   {values:>9} {lines:>6} {masks:>6} {quarters:>10} {backed_out:>12}   {change:>15}   {total:>13}   {psnr:>8}"
+    );
 }
 
 /// A line that is written over and over, on a terminal only.

@@ -54,8 +54,7 @@ pub fn by_kind((name, kind): (&str, Kind), side: usize) -> [(String, Call); 2] {
 /// The call that has this name.
 fn named(name: &str) -> Option<Call> {
     let mut plain = BY_POSITION.iter().chain(&WHOLE);
-    let kinds = SIDES.iter().flat_map(|&side| KINDS.into_iter().filter(move |(_, kind)| kind.is_at(side)).map(move |kind| (kind, side)));
-    let mut kinds = kinds.flat_map(|(kind, side)| by_kind(kind, side));
+    let mut kinds = SIDES.iter().flat_map(|&side| KINDS.map(|kind| by_kind(kind, side))).flatten();
     plain.find(|(other, _)| *other == name).map(|&(_, call)| call).or_else(|| kinds.find(|(other, _)| other == name).map(|(_, call)| call))
 }
 

@@ -47,10 +47,7 @@ fn print_kinds(stage: &Stage) -> Result<(), String> {
         let mut row = vec![format!("{side} × {side}")];
         for kind in KINDS {
             for (name, call) in calls::by_kind(kind, side) {
-                row.push(match kind.1.is_at(side) {
-                    true => format!("{:.1}", rounds(&name, LIBRARY)? / calls::positions(stage, call, ROUNDS) as f64),
-                    false => String::new(),
-                });
+                row.push(format!("{:.1}", rounds(&name, LIBRARY)? / calls::positions(stage, call, ROUNDS) as f64));
             }
         }
         println!("| {} |", row.join(" | "));

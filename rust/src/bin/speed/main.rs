@@ -1,6 +1,6 @@
 //! How fast the library is, as ratios measured in one run on one machine: its calls against a program that redraws the
-//! block's rows completely and against a span renderer written for speed in Rust, GET of one value, a line, a mask and a tree
-//! against GET of the same full block, SET with records in its journal and TAKE BACK against SET with none, HOLES against counting by
+//! block's rows completely and against a span renderer written for speed in Rust, GET of one value, a line and a mask against
+//! GET of the same full block, SET with records in its journal and TAKE BACK against SET with none, HOLES against counting by
 //! the mark and by the word. All must answer alike.
 //!
 //! It prints the tables of docs/SPEED.md. `--short` measures little and is for seeing that the answers agree.
@@ -60,7 +60,7 @@ fn times(effort: &Effort) {
     println!("Ratios of times, medians over {} blocks and {} rounds. Below 1 the library is faster.\n", effort.blocks, effort.rounds);
     let stage = Stage::new(1024, 768, 96);
     let [at_4, at_8, at_64] = get_and_set(&stage, effort);
-    let [_, trees_at_8, trees_at_64] = by_kind(&stage, effort);
+    by_kind(&stage, effort);
     journals::print(&stage, effort);
     let open = open_and_move(&stage, effort);
     let wide = widths(effort);
@@ -72,9 +72,6 @@ fn times(effort: &Effort) {
     println!("GET / span renderer at 4 × 4, 8 × 8, 64 × 64: {} (at most 1.25)", three(|ratios| ratios.get[1]));
     println!("SET / span renderer at 4 × 4, 8 × 8, 64 × 64: {} (at most 1.7)", three(|ratios| ratios.set[1]));
     println!("OPEN / span renderer: {:.2} (at most 1.1)", open[1]);
-    let of_trees = "GET of a tree of 4 × 4 leaves, and of one leaf / GET of the same full block";
-    println!("{of_trees} at 8 × 8: {:.2}, {:.2} (at most 1.2)", trees_at_8[3], trees_at_8[4]);
-    println!("{of_trees} at 64 × 64: {:.2}, {:.2} (at most 1.1)", trees_at_64[3], trees_at_64[4]);
     println!("GET at 4,096 columns / GET at 256 columns: {wide:.2} (flat)");
     let [words, tails] = holes;
     println!("HOLES / mark by mark at 1,024 and 1,001 columns: {:.3}, {:.3} (at most 0.2)", words[0], tails[0]);
@@ -245,17 +242,14 @@ fn set(stage: &Stage, blocks: &[Trials], rounds: usize) -> [f64; 2] {
     ratios(&times)
 }
 
-/// GET of candidates of each kind, against GET of the full block of the same depths: the ratios at three sides. Every call is made
-/// once before it is timed, so that neither of the two finds the planes colder than the other.
-fn by_kind(stage: &Stage, effort: &Effort) -> [[f64; KINDS.len()]; 3] {
+/// GET of one value, of a line and of a mask, each against GET of the full block of the same depths. Every call is made once
+/// before it is timed, so that neither of the two finds the planes colder than the other.
+fn by_kind(stage: &Stage, effort: &Effort) {
     let (session, span) = (stage.session(), Span::open(&stage.settings, &stage.scene));
     println!("| GET / GET of the same full block | {} |", KINDS.map(|(name, _)| name).join(" | "));
-    println!("|---|{}", "---|".repeat(KINDS.len()));
-    let ratios = [(4, 20), (8, 20), (64, 4)].map(|(side, candidates)| {
+    println!("|---|---|---|---|");
+    for (side, candidates) in [(4, 20), (8, 20), (64, 4)] {
         let ratios = KINDS.map(|(_, kind)| {
-            if !kind.is_at(side) {
-                return f64::NAN;
-            }
             let random = &mut Random(1);
             let blocks: Vec<Shapes> = (0..effort.blocks).map(|_| stage.shapes(kind, side, candidates, random)).collect();
             let mut ratios = Vec::new();
@@ -269,14 +263,11 @@ fn by_kind(stage: &Stage, effort: &Effort) -> [[f64; KINDS.len()]; 3] {
                 assert!(first == same && second == same && warm == same, "GET answers as for the full block");
                 ratios.push(if k % 2 == 0 { a / b } else { b / a });
             }
-            median(ratios)
+            format!("{:.2}", median(ratios))
         });
-        let cells = ratios.map(|ratio| if ratio.is_nan() { String::new() } else { format!("{ratio:.2}") });
-        println!("| {side} × {side} | {} |", cells.join(" | "));
-        ratios
-    });
+        println!("| {side} × {side} | {} |", ratios.join(" | "));
+    }
     println!();
-    ratios
 }
 
 /// OPEN and MOVE; answers OPEN's ratios. Each program makes its planes in OPEN and has them in MOVE, which is the drawing alone.

@@ -1,12 +1,12 @@
--- `quarters::fill_flat` meets its contract: the entries passed hold the value.
+-- `fill::fill_flat` meets its contract: the entries passed hold the value.
 use Prim.Native.Nat.{◌-◌, ◌≤◌}
 use mathlib.Core.Path.{◌≡◌, refl, ◌∙◌}
 use native.Mathlib.Omega.{arith}
 use lib.ListN.{length, length-set}
 use Rattle.planes.specs.Parts.{Filled}
 use Rattle.planes.proofs.Fills.{filled_none, filled_next, filled_all}
-use Rattle.quarters.proofs.fill_flat.Statement.{statement}
-use Rattle.quarters.proofs.fill_flat.Tie as tie
+use Rattle.fill.proofs.fill_flat.Statement.{statement}
+use Rattle.fill.proofs.fill_flat.Tie as tie
 
 abbrev invariant-loop : tie.invariant-loop
 invariant-loop depth room₀ k₀ room k = (k ≤ length room₀) × ((length room ≡ length room₀) × Filled 0 (λ j. depth) 0 k room₀ room)

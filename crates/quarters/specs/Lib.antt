@@ -1,2 +1,0 @@
--- A room whose squares are filled.
-pub mod Squares

@@ -1,2 +1,0 @@
--- What the readers of a tree answer.
-pub mod Reads
