@@ -1,4 +1,6 @@
 // What an exported entry answers: the number of the refusal, 0 where the call is accepted, and values through pointers, which a refused call leaves alone.
+#![tactic(auto)]
+
 ghost use Rattle.answers.specs.Answers.{OpenedTold, TriedTold, EditedTold, ReportTold, CountTold};
 
 use judge::Decision;

@@ -1,4 +1,6 @@
 // The combined samples of a stretch of a row, from what the two views hold.
+#![tactic(auto)]
+
 ghost use Rattle.std.specs.Prelude.{◌≡◌, ◌+◌, ◌≤◌, ◌<◌, length};
 ghost use Rattle.marks.specs.Puts.{held_pixel};
 ghost use Rattle.sums.specs.Sides.{paired};

@@ -1,4 +1,6 @@
 // A candidate of any kind written into a block.
+#![tactic(auto)]
+
 ghost use Rattle.std.specs.Prelude.{◌≡◌, true, ◌≤◌, ◌<◌, length};
 ghost use Rattle.model.specs.Planes.{view};
 ghost use Rattle.model.specs.Candidates.{filled};

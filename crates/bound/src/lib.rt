@@ -1,4 +1,6 @@
 // A caller of the exported functions that goes by the theorem of a run: it opens a session, sets a candidate and takes it back.
+#![tactic(auto)]
+
 ghost use Rattle.model.specs.Planes as planes;
 ghost use Rattle.shape.specs.Shapes.{candidate_of, bytes_of};
 ghost use Rattle.bound.specs.Answers.{told, Visited};

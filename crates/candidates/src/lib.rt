@@ -1,4 +1,6 @@
 // 7, 14 and 15: what a candidate of each kind asks of its block and of the bytes lent with it.
+#![tactic(auto)]
+
 ghost use Rattle.std.specs.Prelude.{◌≡◌, ◌&&◌, ◌||◌, ◌+◌, ◌<◌, eqb};
 ghost use Rattle.model.specs.Candidates.{on_border, side_shared, line_ok};
 ghost use Rattle.model.specs.Refusals.{number_of, candidate_then};

@@ -1,4 +1,6 @@
 // The chain of a journal's records: whether it is one, where the next record stands, and what SET and TAKE BACK refuse by it.
+#![tactic(auto)]
+
 ghost use Rattle.std.specs.Prelude.{◌≡◌, true, ◌+◌, ◌*◌, ◌≤◌, ◌<◌, length};
 ghost use Rattle.model.specs.Journals.{next_index};
 ghost use Rattle.model.specs.Refusals.{number_of, record_ok, chain_ok, journal_ok, saving_then, taking_then};

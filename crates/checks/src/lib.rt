@@ -1,4 +1,6 @@
 // CHECK compares every held entry with a fresh drawing.
+#![tactic(auto)]
+
 ghost use Rattle.model.specs.Planes.{pictures, depths, view, held};
 ghost use Rattle.model.specs.Promises.{CheckPost};
 

@@ -1,4 +1,6 @@
 // What SET writes, row by row: the planes of one view on the block's rows, and the combined picture in each row's span.
+#![tactic(auto)]
+
 ghost use Rattle.std.specs.Prelude.{◌≡◌, true, ◌+◌, ◌-◌, ◌*◌, ◌≤◌, ◌<◌, length};
 ghost use Rattle.model.specs.Planes.{view};
 ghost use Rattle.model.specs.Candidates.{filled};

@@ -1,4 +1,6 @@
 // What SET writes of one row of one view: the edit of its depths and limits, and the span of samples, front depths and marks drawn anew.
+#![tactic(auto)]
+
 ghost use Rattle.std.specs.Prelude.{◌≡◌, true, ◌+◌, ◌-◌, ◌*◌, ◌≤◌, ◌<◌, length};
 ghost use Rattle.model.specs.Lists.{row_of};
 ghost use Rattle.model.specs.Row.{line};

@@ -1,4 +1,6 @@
 // What is held, compared with a fresh drawing at one position.
+#![tactic(auto)]
+
 ghost use Rattle.std.specs.Prelude.{◌≡◌, ◌+◌, ◌*◌, ◌<◌, ◌≤◌, length, take};
 ghost use Rattle.model.specs.Lists.{row_of};
 ghost use Rattle.model.specs.Marks.{mark_bytes, spare_bits};

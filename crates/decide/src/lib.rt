@@ -1,4 +1,6 @@
 // What GET decides: the first refusal that applies, or the change of the total.
+#![tactic(auto)]
+
 ghost use Rattle.std.specs.Prelude.{◌≡◌, false, length};
 ghost use Rattle.model.specs.declared.Candidate.TheVariants.{Full};
 ghost use Rattle.model.specs.Views.{is_right};

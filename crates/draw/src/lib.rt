@@ -1,4 +1,6 @@
 // Whole planes drawn row by row: the planes of one view, and the combined picture with its total.
+#![tactic(auto)]
+
 ghost use Rattle.std.specs.Prelude.{◌≡◌, ◌+◌, ◌*◌, ◌≤◌, ◌<◌, length};
 ghost use Rattle.model.specs.Lists.{row_of};
 ghost use Rattle.model.specs.Combined.{worst};

@@ -1,4 +1,6 @@
 // An edit of one row: its depths are written, and its limits brought up to date.
+#![tactic(auto)]
+
 ghost use Rattle.std.specs.Prelude.{◌≡◌, true, ◌+◌, ◌-◌, ◌*◌, ◌≤◌, ◌<◌, length};
 ghost use Rattle.model.specs.Views.{seen};
 ghost use Rattle.model.specs.Refusals.{table_ok};

@@ -1,4 +1,6 @@
 // The rows of a candidate. A full block's rows are lent as they are; rows of any other kind are made in a room, by one leaf a kind.
+#![tactic(auto)]
+
 ghost use Rattle.std.specs.Prelude.{◌≡◌, cond, ◌+◌, ◌*◌, ◌≤◌, ltb, eqb, length};
 ghost use Rattle.model.specs.declared.Candidate.TheVariants.{Regions};
 ghost use Rattle.model.specs.Lists.{list_of};

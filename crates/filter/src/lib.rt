@@ -1,5 +1,7 @@
 // The sample between two neighbouring ones of a row, by the H.265 luma filters of document 02, card 2. Samples are loaded here and then read: lent
 // to another function for that, the slice would have to stand in memory.
+#![tactic(auto)]
+
 ghost use Rattle.std.specs.Prelude.{◌≡◌, ◌+◌, ◌-◌, ◌<◌, ◌≤◌, min, length};
 ghost use Rattle.model.specs.Row.{repeated, mixed};
 

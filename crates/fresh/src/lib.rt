@@ -1,4 +1,6 @@
 // The fresh drawing: both views, their combined picture and its total.
+#![tactic(auto)]
+
 ghost use Rattle.std.specs.Prelude.{◌≡◌, false, true, ◌*◌, ◌≤◌, ◌<◌, length};
 ghost use Rattle.model.specs.Planes.{pictures, depths, view, held};
 ghost use Rattle.draw.specs.Drawn.{Table, PlanesOf};

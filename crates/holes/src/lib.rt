@@ -1,4 +1,6 @@
 // HOLES counts the chosen view's hole marks.
+#![tactic(auto)]
+
 ghost use Rattle.std.specs.Prelude.{◌≡◌};
 ghost use Rattle.model.specs.Refusals.{number_of, holes_number};
 ghost use Rattle.model.specs.Promises.{HolesPost};

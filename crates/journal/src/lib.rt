@@ -1,4 +1,6 @@
 // The journal's records: what a SET saves, and what TAKE BACK reads, narrows and strikes.
+#![tactic(auto)]
+
 ghost use Rattle.std.specs.Prelude.{◌≡◌, true, ◌+◌, ◌*◌, ◌<◌, length};
 ghost use Rattle.model.specs.Blocks.{block_depths};
 ghost use Rattle.model.specs.Journals.{record_size, record_of, saved};

@@ -1,4 +1,6 @@
 // 8 judged by the two sums of a trial, and the change of the total.
+#![tactic(auto)]
+
 ghost use Rattle.std.specs.Prelude.{◌≡◌, ◌*◌, ◌≤◌, pos};
 ghost use Rattle.model.specs.Combined.{worst};
 ghost use Rattle.model.specs.Refusals.{number_of};

@@ -1,4 +1,6 @@
 // The limits of a row's columns, as they are held and as they are drawn; and the near edge that held limits tell.
+#![tactic(auto)]
+
 ghost use Rattle.std.specs.Prelude.{◌≡◌, true, ◌+◌, ◌-◌, ◌%◌, ◌≤◌, ◌<◌, min, length, get_or, pos};
 ghost use Rattle.model.specs.Row.{place, signed};
 ghost use Rattle.model.specs.Views.{seen};

@@ -1,4 +1,6 @@
 // The lists of OPEN, SET, TAKE BACK and RENDER: what each refuses before its work, the first number that applies.
+#![tactic(auto)]
+
 ghost use Rattle.std.specs.Prelude.{◌≡◌, false, ◌<◌, ◌≤◌, ltb};
 ghost use Rattle.model.specs.Planes.{pictures};
 ghost use Rattle.model.specs.Refusals.{number_of, unless, pictures_ok, candidate_then, taking_then};

@@ -1,5 +1,7 @@
 // The entries as C and Rust call them: a slice is a pointer and a length, settings and blocks are structs by value, and the answer is the number of
 // the refusal, 0 where the call is accepted. What an entry answers besides goes through the last parameters, which a refused call leaves alone.
+#![tactic(auto)]
+
 ghost use Rattle.model.specs.Planes as planes;
 ghost use Rattle.model.specs.Promises.{RenderPost, OpenPost, MovePost, GetPost, SetPost, TakeBackPost, CheckPost, HolesPost};
 ghost use Rattle.decide.specs.Decided.{settings_of};

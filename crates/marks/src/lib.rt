@@ -1,4 +1,6 @@
 // Packed hole marks: read, set and packed.
+#![tactic(auto)]
+
 ghost use Rattle.std.specs.Prelude.{◌≡◌, ℕ, ◌+◌, ◌*◌, ◌%◌, ◌<◌, ◌≤◌, length, get_or, replicate};
 ghost use Rattle.model.specs.Marks.{mark_bytes, mark_at, pack_row};
 ghost use Rattle.marks.specs.Puts.{put_bit, set_mark, put_marks, held_pixel};

@@ -5,7 +5,7 @@
 --     limit_above, above_limit              x is below a limit exactly where it is below the row's end and each place from there on
 --     place_zero, one_owner                 column 0's place is 0 or less, so every position has an owner
 use Prim.Native.Nat.{ℕ, zero, suc, ◌+◌, ◌-◌, ◌<◌, ◌≤◌, min}
-use mathlib.Core.Path.{◌≡◌, refl, sym, ap, subst}
+use mathlib.Core.Path.{◌≡◌, ◌∙◌, refl, sym, ap, subst}
 use mathlib.Core.Bool.{Bool, true, false, cond}
 use mathlib.Core.Logic.{⊎_elim}
 use mathlib.Core.List.{List}
@@ -83,7 +83,7 @@ least_join f top c zero n = let e : c + 0 ≡ c = omega arith in let k : 0 + n �
 least_join f top c (suc m) n =
     let e : c + suc m ≡ suc c + m = omega arith in
     let k : suc m + n ≡ suc (m + n) = omega arith in
-    rw (e, k) (ap (min (f c)) (least_join f top (suc c) m n))
+    ap (λ (q : ℕ). least f (least f top q n) c (suc m)) e ∙ (ap (min (f c)) (least_join f top (suc c) m n) ∙ sym (ap (least f top c) k))
 
 -- places that agree
 pub least_same : (f g : ℕ → ℕ) (top c n : ℕ) → ((j : ℕ) → c ≤ j → g j ≡ f j) → least g top c n ≡ least f top c n

@@ -1,4 +1,6 @@
 // The types that every entry of the library shares, and how a sample is read.
+#![tactic(auto)]
+
 ghost use Rattle.std.specs.Prelude.{◌≡◌, ◌<◌, ◌≤◌, length};
 ghost use Rattle.model.specs.Row.{greatest, read, sample_in};
 ghost use Rattle.model.specs.Refusals.{number_of};

@@ -1,4 +1,6 @@
 // MOVE: the depths as they stand, drawn anew from another seat.
+#![tactic(auto)]
+
 ghost use Rattle.std.specs.Prelude.{◌≡◌};
 ghost use Rattle.model.specs.Planes.{pictures, depths, view, held, with_seat};
 ghost use Rattle.model.specs.Promises.{MovePost};

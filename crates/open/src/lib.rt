@@ -1,4 +1,6 @@
 // OPEN: all held planes filled afresh, the journal emptied, and the settings with their total.
+#![tactic(auto)]
+
 ghost use Rattle.model.specs.Planes.{pictures, depths, view, held};
 ghost use Rattle.model.specs.Promises.{OpenPost};
 

@@ -1,1 +1,2 @@
 // The order of separate edits: no code.
+#![tactic(auto)]

@@ -1,4 +1,6 @@
 // What one position shows, from its owner, the column after it and the near edge beyond.
+#![tactic(auto)]
+
 ghost use Rattle.std.specs.Prelude.{◌≡◌, ◌+◌, ◌-◌, ◌≤◌, ◌<◌, length};
 ghost use Rattle.model.specs.Row.{sample_in, step_of, mixed, pixel};
 ghost use Rattle.model.specs.Views.{seen, entry_of};

@@ -1,4 +1,6 @@
 // Where the columns of a row are placed, and what they are read from, as a view reads the row.
+#![tactic(auto)]
+
 ghost use Rattle.std.specs.Prelude.{◌≡◌, true, ◌+◌, ◌-◌, ◌≤◌, ◌<◌, min, length, get_or, set};
 ghost use Rattle.model.specs.Row.{quarter, place, least as leastOf};
 ghost use Rattle.model.specs.Views.{seen};

@@ -1,4 +1,6 @@
 // Lists as planes: parts that are replaced, filled or painted; and the entries of a row as a view reads it.
+#![tactic(auto)]
+
 ghost use Rattle.std.specs.Prelude.{◌≡◌, ◌+◌, ◌-◌, ◌<◌, ◌≤◌};
 ghost use Rattle.model.specs.Views.{entry_of};
 

@@ -1,4 +1,6 @@
 // Values that lie in their ranges: sides, entries of tables and pictures, gaps, saved depths.
+#![tactic(auto)]
+
 ghost use Rattle.std.specs.Prelude.{◌≡◌, ◌&&◌, ◌+◌, ◌<◌};
 ghost use Rattle.model.specs.Refusals.{side_ok, up_to, table_ok, tear_ok, picture_ok};
 

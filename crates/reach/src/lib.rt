@@ -1,1 +1,2 @@
 // How far one depth sample can move the total: no code.
+#![tactic(auto)]

@@ -1,4 +1,6 @@
 // What TAKE BACK reads of the journal and writes there: the newest record, its words narrowed to depths, and the record struck.
+#![tactic(auto)]
+
 ghost use Rattle.std.specs.Prelude.{◌≡◌, true, ◌+◌, ◌*◌, ◌<◌, ◌≤◌, length};
 ghost use Rattle.model.specs.Journals.{newest, record_end};
 ghost use Rattle.model.specs.Refusals.{up_to};

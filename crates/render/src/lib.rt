@@ -1,4 +1,6 @@
 // RENDER: one row of one view.
+#![tactic(auto)]
+
 ghost use Rattle.std.specs.Prelude.{◌≡◌, true, ◌≤◌, length};
 ghost use Rattle.model.specs.Row.{line};
 ghost use Rattle.model.specs.Views.{view_row};

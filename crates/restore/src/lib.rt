@@ -1,5 +1,7 @@
 // Depths that a record of the journal saved, put back into their block: its words are narrowed in a room, as many rows as fit, and these are tried, and set, as a
 // full block of their own.
+#![tactic(auto)]
+
 ghost use Rattle.std.specs.Prelude.{◌≡◌, true, ◌+◌, ◌*◌, ◌<◌, ◌≤◌, length};
 ghost use Rattle.model.specs.Planes as planes;
 ghost use Rattle.model.specs.Refusals.{table_ok, up_to};

@@ -1,4 +1,6 @@
 // One row of one view, drawn from the right.
+#![tactic(auto)]
+
 ghost use Rattle.std.specs.Prelude.{◌≡◌, true, false, ◌+◌, ◌-◌, ◌≤◌, ◌<◌, length, get_or, set};
 ghost use Rattle.model.specs.Row.{line, quarter};
 ghost use Rattle.model.specs.Views.{seen, view_row};

@@ -1,4 +1,6 @@
 // The row printer on many inputs: for each file that an argument names, the name and then what is printed for it.
+#![tactic(auto)]
+
 fn print_case(i: usize) {
     let mut name = io::buffer();
     let n = os::arg(i, &mut name);

@@ -1,4 +1,6 @@
 // The lines that the row printer prints: decimal numbers, a header, and a line for each position.
+#![tactic(auto)]
+
 ghost use Rattle.std.specs.Prelude.{◌≡◌, [], ◌∷◌, ◌++◌, ◌+◌, ◌≤◌, ◌<◌, length};
 ghost use Rattle.model.specs.Lists.{rows};
 ghost use Rattle.rowtext.specs.Format.{decimal, text_line, digit as Format·digit};

@@ -1,4 +1,6 @@
 // The text that the row printer reads: three lines of decimal numbers, read by position.
+#![tactic(auto)]
+
 ghost use Rattle.std.specs.Prelude.{◌≡◌, ℕ, ◌+◌, ◌-◌, ◌*◌, ◌≤◌, ◌<◌, length, get_or, drop, replicate};
 ghost use Rattle.rowtext.specs.Format.{nearest};
 ghost use Rattle.rowtext.specs.Promise.{ReadPost};

@@ -1,1 +1,2 @@
 // The theorem of a run: no code.
+#![tactic(auto)]

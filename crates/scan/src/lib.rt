@@ -1,4 +1,6 @@
 // CHECK's walk over all positions, and its verdict.
+#![tactic(auto)]
+
 ghost use Rattle.std.specs.Prelude.{◌≡◌, ◌+◌, ◌*◌, ◌≤◌, ◌<◌, length};
 ghost use Rattle.model.specs.Planes.{pictures, depths, view, held, view_rows};
 ghost use Rattle.model.specs.Refusals.{check_number};

@@ -1,4 +1,6 @@
 // SET writes a candidate into a block of a view, saves what stood there in the journal, and brings the held planes and the total up to date.
+#![tactic(auto)]
+
 ghost use Rattle.model.specs.Planes as planes;
 ghost use Rattle.model.specs.Promises.{SetPost};
 

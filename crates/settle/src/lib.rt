@@ -1,4 +1,6 @@
 // A candidate tried in a view, judged, and written where it is accepted.
+#![tactic(auto)]
+
 ghost use Rattle.std.specs.Prelude.{◌≡◌, true, ◌≤◌, length};
 ghost use Rattle.model.specs.Planes as planes;
 ghost use Rattle.model.specs.Candidates.{filled};

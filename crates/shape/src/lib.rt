@@ -1,4 +1,6 @@
 // A candidate as C and Rust pass it: a shape by value, and bytes beside it; and the two numbers of the settings that say where rows tear.
+#![tactic(auto)]
+
 ghost use Rattle.std.specs.Prelude.{◌≡◌, ◌≤◌};
 ghost use Rattle.shape.specs.Shapes.{candidate_of, lent_of};
 

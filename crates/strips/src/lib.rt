@@ -1,4 +1,6 @@
 // What a candidate would change in one row: it is drawn over the span alone, strip by strip from the right, and measured.
+#![tactic(auto)]
+
 ghost use Rattle.std.specs.Prelude.{ℕ, ◌+◌, ◌-◌, ◌*◌, ◌≤◌, ◌<◌, min, ◌≡◌, true, length, get_or};
 ghost use Rattle.model.specs.Row.{place, greatest, sample_in, pixel};
 ghost use Rattle.model.specs.Views.{seen};

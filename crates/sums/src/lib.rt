@@ -1,4 +1,6 @@
 // Squared errors by a table of squares, and the combined sample.
+#![tactic(auto)]
+
 ghost use Rattle.std.specs.Prelude.{◌≡◌, ◌*◌, ◌<◌, ◌≤◌, leb, length};
 ghost use Rattle.model.specs.Lists.{sum_to};
 ghost use Rattle.model.specs.Row.{greatest, sample_in};

@@ -1,4 +1,6 @@
 // TAKE BACK writes the newest record's depths into its block as a SET of them would, and strikes the record.
+#![tactic(auto)]
+
 ghost use Rattle.model.specs.Planes as planes;
 ghost use Rattle.model.specs.Promises.{TakeBackPost};
 

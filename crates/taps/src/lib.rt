@@ -1,4 +1,6 @@
 // The filters of document 02, card 2, over given samples: what the taps add and take away, divided and held.
+#![tactic(auto)]
+
 ghost use Rattle.std.specs.Prelude.{◌≡◌, ◌+◌, ◌-◌, ◌<◌};
 ghost use Rattle.taps.specs.Sums.{scaled, quarter_of, half_of};
 

@@ -1,4 +1,6 @@
 // What a candidate would change: the trials of the block's rows, summed.
+#![tactic(auto)]
+
 ghost use Rattle.std.specs.Prelude.{◌+◌, ◌-◌, ◌*◌, ◌/◌, ◌≤◌, ◌<◌, ◌≡◌, true, false, length};
 ghost use Rattle.model.specs.Lists.{row_of};
 ghost use Rattle.model.specs.Candidates.{filled};

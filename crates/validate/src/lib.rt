@@ -1,4 +1,6 @@
 // The tests that several calls have in common, in the order of their lists. Of a plane they look at its length alone; the entries of a picture are a test apart, which only OPEN and MOVE make.
+#![tactic(auto)]
+
 ghost use Rattle.std.specs.Prelude.{◌≡◌, cond, ◌+◌, ◌<◌, ◌≤◌, eqb};
 ghost use Rattle.model.specs.Refusals.{number_of, block_ok, candidate_then};
 ghost use Rattle.validate.specs.Numbers.{view_fits, planes_fit, common_number, sides, own_number};

@@ -1,5 +1,7 @@
 // The cases that are run: both sides of each boundary of document 01 and of the cards, through every entry. A line says a case's numbers, its calls and
 // their replies; the first is document 01's session. rust/tests/vectors.rs has many more cases of the library as it is linked.
+#![tactic(auto)]
+
 use model::{Block, Candidate, Count, Refusal, Report, Settings, Tear};
 
 // Prints a text.

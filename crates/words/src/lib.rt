@@ -1,4 +1,6 @@
 // Holes counted by the word: eight bytes of packed marks are joined to one, and its ones counted.
+#![tactic(auto)]
+
 ghost use Rattle.std.specs.Prelude.{◌≡◌, ◌+◌, ◌*◌, ◌%◌, ◌^◌, ◌<◌, ◌≤◌, length, get_or};
 ghost use Rattle.model.specs.Marks.{mark_bytes, row_holes, holes_in};
 ghost use Rattle.words.specs.Words.{joined};
