@@ -8,7 +8,7 @@ ghost use Rattle.model.specs.Refusals.{number_of};
 // Where neighbouring columns tear apart, in quarter samples: the widest gap of a smooth pair, and how far past its column a torn pair, or the last column,
 // still shows that column.
 #[repr(C)]
-#[derive(Drop)]
+#[derive(Clone, Copy)]
 pub struct Tear {
     pub gap: u8,
     pub distance: u8,
@@ -16,7 +16,7 @@ pub struct Tear {
 
 // The settings of a session, passed and answered by value. `left` and `right` are the two tables of disparities in quarter samples.
 #[repr(C)]
-#[derive(Drop)]
+#[derive(Clone, Copy)]
 pub struct Settings {
     pub w: u32,
     pub h: u32,
@@ -30,7 +30,7 @@ pub struct Settings {
 
 // A block of a depth plane: its first column, first row, width and height.
 #[repr(C)]
-#[derive(Drop)]
+#[derive(Clone, Copy)]
 pub struct Block {
     pub column: u32,
     pub row: u32,
@@ -39,21 +39,21 @@ pub struct Block {
 }
 
 // A position of a block, counted from the block's first column and row.
-#[derive(Drop)]
+#[derive(Clone, Copy)]
 pub struct Point {
     pub column: u32,
     pub row: u32,
 }
 
 // What divides a block into two regions: the line from `start` to `end`, or a mask, whose bits are lent beside.
-#[derive(Drop)]
+#[derive(Clone, Copy)]
 pub enum Split {
     Line { start: Point, end: Point },
     Mask,
 }
 
 // What a block is filled with: its depths one by one, which are lent beside; one depth; or two regions with a depth each.
-#[derive(Drop)]
+#[derive(Clone, Copy)]
 pub enum Candidate {
     Full,
     Flat(u8),
@@ -65,7 +65,7 @@ pub enum Candidate {
 }
 
 // The kind of a pair of neighbouring columns.
-#[derive(Drop)]
+#[derive(Clone, Copy)]
 pub enum Kind {
     Hidden,
     Smooth,
@@ -73,7 +73,7 @@ pub enum Kind {
 }
 
 // What a view shows at a position: its sample, its hole mark (0 or 1) and its front depth.
-#[derive(Drop)]
+#[derive(Clone, Copy)]
 pub struct Pixel {
     pub sample: u16,
     pub mark: u8,
@@ -81,7 +81,7 @@ pub struct Pixel {
 }
 
 // Why a call is refused; `None` where it is accepted.
-#[derive(Drop)]
+#[derive(Clone, Copy)]
 pub enum Refusal {
     None,
     Size,

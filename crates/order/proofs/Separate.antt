@@ -5,7 +5,7 @@
 --     still_separate, plain_order      and so do the edits of a list, any two of which are separate, in every order
 use Prim.Native.Nat.{ℕ, ◌+◌, ◌/◌, ◌%◌, ◌<◌, max}
 use mathlib.Core.Path.{◌≡◌, refl, sym, ap, ◌∙◌, subst}
-use mathlib.Core.Bool.{Bool, true, false, cond, not, ◌||◌, or_true}
+use mathlib.Core.Bool.{Bool, true, false, cond, not, ◌||◌, or-true}
 use mathlib.Core.Logic.{inl, inr}
 use mathlib.Core.List.Permᴰ
 use mathlib.Core.List.{List, ◌∷◌}
@@ -36,7 +36,7 @@ or_first : (a b : Bool) → a ≡ true → (a || b) ≡ true
 or_first a b e = rw e
 
 or_second : (a b : Bool) → b ≡ true → (a || b) ≡ true
-or_second a b e = rw (e, or_true)
+or_second a b e = rw (e, or-true)
 
 or_else : (a b : Bool) → a ≡ false → (a || b) ≡ true → b ≡ true
 or_else a b f e = rw f at e

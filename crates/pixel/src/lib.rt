@@ -10,7 +10,7 @@ use model::{Pixel, Tear};
 
 // The near edge right of some columns: the limit of the column after them, and the greatest column placed there. At the row's end none is, and
 // the column is the one past the last.
-#[derive(Drop)]
+#[derive(Clone, Copy)]
 pub struct Edge {
     pub limit: u32,
     pub column: usize,
@@ -18,7 +18,7 @@ pub struct Edge {
 
 // A column and the one after it, as the view reads the row: the column and its entry, the two depths and the two places; and the near edge
 // right of the column, its limit and the greatest column placed there. Where the column is the last of its row, `next` is the row's end.
-#[derive(Drop)]
+#[derive(Clone, Copy)]
 pub struct Pair {
     pub column: usize,
     pub entry: usize,

@@ -7,7 +7,7 @@
 --     local_written                          a written block changes no more than document 01 allows
 use Prim.Native.Nat.{ℕ, ◌*◌, ◌<◌, ◌≤◌}
 use mathlib.Core.Path.{◌≡◌, refl, ap, sym, ◌∙◌}
-use mathlib.Core.Bool.{Bool, true, false, and_true}
+use mathlib.Core.Bool.{Bool, true, false, and-true}
 use mathlib.Core.List.{List}
 use lib.ListN.{length, get_or}
 use lib.IntN.{ℤ, pos}
@@ -140,7 +140,7 @@ module _ (r : Plain) (ok : Ready r) where
     ready_move t =
         let left = and_left (picture_ok p.left) _ ok.samples in
         let right = and_left (picture_ok p.right) (picture_ok p.reference) (and_right (picture_ok p.left) _ ok.samples) in
-        rw (size_yes s ok.size, eq-eqb _ _ ok.pictures.left, eq-eqb _ _ ok.pictures.right, depths_yes (area s) d ok.depths, held_yes (area s) (mark_bytes s.w * s.h) (fresh s p d) (held_of s p d ok.depths), left, right, and_true)
+        rw (size_yes s ok.size, eq-eqb _ _ ok.pictures.left, eq-eqb _ _ ok.pictures.right, depths_yes (area s) d ok.depths, held_yes (area s) (mark_bytes s.w * s.h) (fresh s p d) (held_of s p d ok.depths), left, right, and-true)
 
     pub ready_moved : move_number s to reference j ≡ 0 → Ready (plain (with_seat s to) (with_reference p reference) d)
     ready_moved z = ready (with_seat s to) (with_reference p reference) d (fresh s p d) j (ready_move s.total ∙ z)

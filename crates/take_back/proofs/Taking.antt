@@ -12,7 +12,7 @@ use lib.Dec.{eqb}
 use lib.IntN.{ℤ, pos, sub_ℕ}
 use lib.ListN.{length, take, drop, length-drop}
 use lib.Seq.{length-take-le}
-use borrow.Author.Tests.{not_true, eqb-false}
+use borrow.Author.Tests.{not-true, eqb-false}
 use Rattle.model.specs.declared.Settings.{Settings}
 use Rattle.model.specs.declared.Refusal.{Refusal}
 use Rattle.model.specs.Planes.{Pictures, Depths, Held, with_total}
@@ -41,7 +41,7 @@ module _ (s : Settings) (j : List ℕ) (e : taking_then s j 0 ≡ 0) where
 
   some_taken : newest j ≡ 0 → ⊥
   unfolding taking_then
-  some_taken = eqb-false (newest j) 0 (not_true (eqb (newest j) 0) (unless_true (some_record j) 11 0 (unless_rest (journal_ok s j) 12 _ e)))
+  some_taken = eqb-false (newest j) 0 (not-true (eqb (newest j) 0) (unless_true (some_record j) 11 0 (unless_rest (journal_ok s j) 12 _ e)))
 
   pub newest_taken : journals.Record s j (newest j)
   newest_taken = journal_newest s j journal_taken some_taken

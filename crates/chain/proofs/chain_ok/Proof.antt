@@ -2,7 +2,7 @@
 use Prim.Native.Nat.{◌<◌}
 use mathlib.Core.Path.{◌≡◌, refl, sym, ◌∙◌}
 use native.Mathlib.Omega.{arith}
-use borrow.Author.Tests.{not_true, not-false}
+use borrow.Author.Tests.{not-true, not-false}
 use Rattle.model.specs.Refusals.{chain_ok}
 use Rattle.model.proofs.Journals.{chain_zero}
 use Rattle.validate.specs.Numbers.{sides}
@@ -26,7 +26,7 @@ returns : tie.Need-returns invariant-loop decreases-loop
 returns c =
     let a = c.before.before.before.before.before.args in
     let l = c.before.before.before.loop in
-    sym (sym l.invariant.1 ∙ chain_refused (sides a.w a.h) a.journal.now l.at c.before.before.loop-test.true (sym c.before.record-ok.ensures ∙ not_true _ c.if1.true))
+    sym (sym l.invariant.1 ∙ chain_refused (sides a.w a.h) a.journal.now l.at c.before.before.loop-test.true (sym c.before.record-ok.ensures ∙ not-true _ c.if1.true))
 
 mul-before : tie.Need-overflow-mul-before invariant-loop decreases-loop
 mul-before c = omega (arith, c.before.before.before.loop.invariant.0)

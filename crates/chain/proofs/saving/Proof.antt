@@ -2,7 +2,7 @@
 use mathlib.Core.Path.{sym, ◌∙◌}
 use native.Mathlib.Omega.{arith}
 use borrow.Author.Rules.{rules}
-use borrow.Author.Tests.{not_true, not-false}
+use borrow.Author.Tests.{not-true, not-false}
 use Rattle.model.proofs.Refusals.{room_short, room_far, room_yes}
 use Rattle.model.proofs.Journals.{journal_words, next_inside}
 use Rattle.validate.specs.Numbers.{sides}
@@ -11,7 +11,7 @@ use Rattle.chain.proofs.saving.Statement.{statement}
 use Rattle.chain.proofs.saving.Tie as tie
 
 returns : tie.Need-returns
-returns c = let a = c.before.before.before.args in saving_journal (sides a.w a.h) a.block a.journal.now (sym c.before.journal-ok.ensures ∙ not_true _ c.if1.true)
+returns c = let a = c.before.before.before.args in saving_journal (sides a.w a.h) a.block a.journal.now (sym c.before.journal-ok.ensures ∙ not-true _ c.if1.true)
 
 next-index-requires : tie.Need-next-index-requires
 next-index-requires c κs =

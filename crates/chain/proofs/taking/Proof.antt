@@ -1,7 +1,7 @@
 -- `chain::taking` meets its contract: 13, 12 or none.
 use mathlib.Core.Path.{sym, ◌∙◌}
 use borrow.Author.Rules.{rules}
-use borrow.Author.Tests.{not_true, not-false}
+use borrow.Author.Tests.{not-true, not-false}
 use Rattle.model.proofs.Journals.{journal_words}
 use Rattle.validate.specs.Numbers.{sides}
 use Rattle.chain.proofs.Chains.{taking_journal, taking_nothing, taking_none}
@@ -9,7 +9,7 @@ use Rattle.chain.proofs.taking.Statement.{statement}
 use Rattle.chain.proofs.taking.Tie as tie
 
 returns : tie.Need-returns
-returns c = let a = c.before.before.before.args in taking_journal (sides a.w a.h) a.journal.now (sym c.before.journal-ok.ensures ∙ not_true _ c.if1.true)
+returns c = let a = c.before.before.before.args in taking_journal (sides a.w a.h) a.journal.now (sym c.before.journal-ok.ensures ∙ not-true _ c.if1.true)
 
 shared-slice-read-if2 : tie.Need-shared-slice-read-if2
 shared-slice-read-if2 c = let a = c.before.before.before.before.args in journal_words (sides a.w a.h) a.journal.now (sym c.before.before.journal-ok.ensures ∙ not-false _ c.before.if1.false)

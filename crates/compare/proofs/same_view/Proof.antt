@@ -4,7 +4,7 @@ use Prim.Native.Nat.{◌+◌, ◌*◌}
 use lib.IntN.{pos}
 use lib.ListN.{get_or}
 use mir.Syntax.{w16}
-use borrow.Author.Tests.{eq-eqb, ne_eqb, not_true, not-false}
+use borrow.Author.Tests.{eq-eqb, ne_eqb, not-true, not-false}
 use Rattle.compare.specs.Agree.{same_value, agrees}
 use Rattle.compare.proofs.Values.{read_same}
 use borrow.Author.Rules.{rules}
@@ -30,7 +30,7 @@ returns-3 : tie.Need-returns-3
 unfolding agrees
 returns-3 c =
     let t = c.before.before.before.before in
-    rw (eq-eqb _ _ t.before.before.before.if1.false, eq-eqb _ _ t.if2.false, sym (limits_are c.before) ∙ not_true _ c.if3.true)
+    rw (eq-eqb _ _ t.before.before.before.if1.false, eq-eqb _ _ t.if2.false, sym (limits_are c.before) ∙ not-true _ c.if3.true)
 
 returns-4 : tie.Need-returns-4
 unfolding agrees

@@ -6,7 +6,7 @@ use native.Mathlib.Omega.{arith}
 use native.Mathlib.Nat.{mul-le-mul}
 use lib.ListN.{length}
 use lib.Dec.{eqb}
-use borrow.Author.Tests.{not_true, not-false, le-leb, lt-leb, eq-eqb, ne_eqb}
+use borrow.Author.Tests.{not-true, not-false, le-leb, lt-leb, eq-eqb, ne_eqb}
 use Rattle.model.specs.Marks.{mark_bytes}
 use Rattle.model.specs.Refusals.{side_ok, size_ok, holes_number}
 use Rattle.model.proofs.Refusals.{side_facts}
@@ -27,11 +27,11 @@ right-sized c = let a = c.before.before.before.before.before.before.args in eqb 
 
 returns : tie.Need-returns
 unfolding holes_number size_ok
-returns c = rw (sym c.before.side-ok.ensures ∙ not_true _ c.if1.true)
+returns c = rw (sym c.before.side-ok.ensures ∙ not-true _ c.if1.true)
 
 returns-2 : tie.Need-returns-2
 unfolding holes_number size_ok
-returns-2 c = rw (w-ok c.before.before, sym c.before.side-ok2.ensures ∙ not_true _ c.if2.true)
+returns-2 c = rw (w-ok c.before.before, sym c.before.side-ok2.ensures ∙ not-true _ c.if2.true)
 
 mul-bytes : tie.Need-overflow-mul-bytes
 mul-bytes c =
@@ -44,7 +44,7 @@ returns-3 : tie.Need-returns-3
 unfolding holes_number size_ok
 returns-3 c =
     rw (w-ok c.before.before.before, h-ok c.before)
-    (⊎_elim (λ x. rw (ne_eqb _ _ x.taken)) (λ x. rw (eq-eqb _ _ x.0.left, not_true (right-sized c.before) x.1.taken)) c.if3.branch)
+    (⊎_elim (λ x. rw (ne_eqb _ _ x.taken)) (λ x. rw (eq-eqb _ _ x.0.left, not-true (right-sized c.before) x.1.taken)) c.if3.branch)
 
 returns-4 : tie.Need-returns-4
 unfolding holes_number size_ok

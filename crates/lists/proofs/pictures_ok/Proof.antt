@@ -1,20 +1,20 @@
 -- `lists::pictures_ok` meets its contract.
 use mathlib.Core.Path.{sym, ◌∙◌}
 use borrow.Author.Rules.{rules}
-use borrow.Author.Tests.{not_true, not-false}
+use borrow.Author.Tests.{not-true, not-false}
 use Rattle.model.specs.Refusals.{pictures_ok}
 use Rattle.lists.proofs.pictures_ok.Statement.{statement}
 use Rattle.lists.proofs.pictures_ok.Tie as tie
 
 returns : tie.Need-returns
 unfolding pictures_ok
-returns c = rw (sym c.before.picture-ok.ensures ∙ not_true _ c.if1.true)
+returns c = rw (sym c.before.picture-ok.ensures ∙ not-true _ c.if1.true)
 
 returns-2 : tie.Need-returns-2
 unfolding pictures_ok
 returns-2 c =
     let first = c.before.before in
-    rw (sym first.before.picture-ok.ensures ∙ not-false _ first.if1.false, sym c.before.picture-ok2.ensures ∙ not_true _ c.if2.true)
+    rw (sym first.before.picture-ok.ensures ∙ not-false _ first.if1.false, sym c.before.picture-ok2.ensures ∙ not-true _ c.if2.true)
 
 returns-3 : tie.Need-returns-3
 unfolding pictures_ok

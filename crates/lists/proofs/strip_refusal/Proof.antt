@@ -1,6 +1,6 @@
 use mathlib.Core.Path.{◌≡◌, sym, ◌∙◌}
 use mathlib.Core.Bool.{true, ◌&&◌}
-use borrow.Author.Tests.{not_true, not-false, le-leb, lt-leb}
+use borrow.Author.Tests.{not-true, not-false, le-leb, lt-leb}
 use Rattle.model.specs.Refusals.{side_ok, table_ok, tear_ok}
 use Rattle.model.proofs.Refusals.{side_facts}
 use Rattle.lists.specs.Numbers.{strip_fits, strip_number}
@@ -20,23 +20,23 @@ tables-ok c = sym c.before.tables-ok.ensures ∙ not-false _ c.if3.false
 
 returns : tie.Need-returns
 unfolding strip_number
-returns c = rw (sym c.before.side-ok.ensures ∙ not_true _ c.if1.true)
+returns c = rw (sym c.before.side-ok.ensures ∙ not-true _ c.if1.true)
 
 strip-sized-requires : tie.Need-strip-sized-requires
 strip-sized-requires c κs = (side_facts _ (w-ok c)).most
 
 returns-2 : tie.Need-returns-2
 unfolding strip_number
-returns-2 c = rw (w-ok c.before.before, sym c.before.strip-sized.ensures ∙ not_true _ c.if2.true)
+returns-2 c = rw (w-ok c.before.before, sym c.before.strip-sized.ensures ∙ not-true _ c.if2.true)
 
 returns-3 : tie.Need-returns-3
 unfolding strip_number
-returns-3 c = rw (w-ok c.before.before.before.before, planes-ok c.before.before, sym c.before.tables-ok.ensures ∙ not_true _ c.if3.true)
+returns-3 c = rw (w-ok c.before.before.before.before, planes-ok c.before.before, sym c.before.tables-ok.ensures ∙ not-true _ c.if3.true)
 
 returns-4 : tie.Need-returns-4
 unfolding strip_number
 returns-4 c =
-    rw (w-ok c.before.before.before.before.before.before, planes-ok c.before.before.before.before, tables-ok c.before.before, sym c.before.tear-ok.ensures ∙ not_true _ c.if4.true)
+    rw (w-ok c.before.before.before.before.before.before, planes-ok c.before.before.before.before, tables-ok c.before.before, sym c.before.tear-ok.ensures ∙ not-true _ c.if4.true)
 
 -- what is left once the tear has passed
 tear-passed : (c : tie.Else4) → tear_ok c.before.before.before.before.before.before.before.before.args.tear ≡ true

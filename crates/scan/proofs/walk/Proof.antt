@@ -3,7 +3,7 @@
 use Prim.Native.Nat.{◌-◌, ◌≤◌}
 use mathlib.Core.Path.{◌≡◌, refl, sym, ap, ◌∙◌}
 use native.Mathlib.Omega.{arith}
-use borrow.Author.Tests.{not_true, not-false}
+use borrow.Author.Tests.{not-true, not-false}
 use Rattle.model.specs.declared.Settings.{Settings}
 use Rattle.model.specs.Planes.{Pictures, Depths, Held, pictures, depths, view, held}
 use Rattle.model.proofs.Refusals.{Common, common_facts}
@@ -222,7 +222,7 @@ returns-2 c =
     let s = start_of r in
     let i = l.before.loop in
     walked_at (settings-of s) (pictures-of s) (depths_there s) (held_of s) r.before.rows.y i.x i.sum r.rows-test.taken l.loop-test.taken i.inv.1.1
-    (sym (seen-in c.before).same_is ∙ not_true _ c.if1.true)
+    (sym (seen-in c.before).same_is ∙ not-true _ c.if1.true)
 
 pub walk-spec : {M : Type 1} → statement M
 walk-spec =

@@ -1,6 +1,6 @@
 use mathlib.Core.Path.{◌≡◌, sym, ◌∙◌}
 use mathlib.Core.Bool.{true, ◌&&◌}
-use borrow.Author.Tests.{not_true, not-false, le-leb, lt-leb}
+use borrow.Author.Tests.{not-true, not-false, le-leb, lt-leb}
 use Rattle.model.specs.Refusals.{side_ok, table_ok}
 use Rattle.validate.specs.Numbers.{planes_fit, common_number}
 use Rattle.model.proofs.Refusals.{side_facts}
@@ -23,18 +23,18 @@ tables-ok c = sym c.before.tables-ok.ensures ∙ not-false _ c.if4.false
 
 returns : tie.Need-returns
 unfolding common_number
-returns c = rw (sym c.before.side-ok.ensures ∙ not_true _ c.if1.true)
+returns c = rw (sym c.before.side-ok.ensures ∙ not-true _ c.if1.true)
 
 returns-2 : tie.Need-returns-2
 unfolding common_number
-returns-2 c = rw (w-ok c.before.before, sym c.before.side-ok2.ensures ∙ not_true _ c.if2.true)
+returns-2 c = rw (w-ok c.before.before, sym c.before.side-ok2.ensures ∙ not-true _ c.if2.true)
 
 planes-sized-requires : tie.Need-planes-sized-requires
 planes-sized-requires c κs = ((side_facts _ (w-ok c.before.before)).most, (side_facts _ (h-ok c)).most)
 
 returns-3 : tie.Need-returns-3
 unfolding common_number
-returns-3 c = rw (w-ok c.before.before.before.before, h-ok c.before.before, sym c.before.planes-sized.ensures ∙ not_true _ c.if3.true)
+returns-3 c = rw (w-ok c.before.before.before.before, h-ok c.before.before, sym c.before.planes-sized.ensures ∙ not-true _ c.if3.true)
 
 returns-4 : tie.Need-returns-4
 unfolding common_number
@@ -43,7 +43,7 @@ returns-4 c =
       w-ok c.before.before.before.before.before.before,
       h-ok c.before.before.before.before,
       planes-ok c.before.before,
-      sym c.before.tables-ok.ensures ∙ not_true _ c.if4.true,
+      sym c.before.tables-ok.ensures ∙ not-true _ c.if4.true,
     )
 
 returns-5 : tie.Need-returns-5
@@ -66,7 +66,7 @@ returns-6 c =
       planes-ok c.before.before.before.before.before,
       tables-ok c.before.before.before,
       le-leb _ _ c.before.before.if5.false,
-      sym c.before.tear-ok.ensures ∙ not_true _ c.if6.true,
+      sym c.before.tear-ok.ensures ∙ not-true _ c.if6.true,
     )
 
 returns-7 : tie.Need-returns-7

@@ -1,5 +1,5 @@
 use mathlib.Core.Path.{sym, ◌∙◌}
-use borrow.Author.Tests.{not_true, not-false, le-leb, lt-leb}
+use borrow.Author.Tests.{not-true, not-false, le-leb, lt-leb}
 use Rattle.validate.specs.Numbers.{own_number}
 use borrow.Author.Rules.{rules}
 use Rattle.validate.proofs.own.Statement.{statement}
@@ -11,7 +11,7 @@ returns c = rw (lt-leb _ _ c.if1.true)
 
 returns-2 : tie.Need-returns-2
 unfolding own_number
-returns-2 c = rw (le-leb _ _ c.before.before.if1.false, sym c.before.block-ok.ensures ∙ not_true _ c.if2.true)
+returns-2 c = rw (le-leb _ _ c.before.before.if1.false, sym c.before.block-ok.ensures ∙ not-true _ c.if2.true)
 
 returns-3 : tie.Need-returns-3
 unfolding own_number

@@ -2,7 +2,7 @@ use Prim.Native.Nat.{◌+◌, ◌/◌, ◌≤◌}
 use mathlib.Core.Path.{sym, ◌∙◌}
 use native.Mathlib.Omega.{arith}
 use native.Mathlib.Nat.{mul-le-mul}
-use borrow.Author.Tests.{not_true, not-false, eq-eqb}
+use borrow.Author.Tests.{not-true, not-false, eq-eqb}
 use Rattle.model.proofs.Choice as choice
 use Rattle.validate.specs.Numbers.{planes_fit}
 use Rattle.validate.proofs.Facts.{planes_facts}
@@ -18,14 +18,14 @@ mul-m c = let b : (c.args.w + 7) / 8 ≤ 512 = omega arith in omega (arith, mul-
 
 returns : tie.Need-returns
 unfolding planes_fit
-returns c = rw (sym c.before.view_sized.ensures ∙ not_true _ c.if1.true)
+returns c = rw (sym c.before.view_sized.ensures ∙ not-true _ c.if1.true)
 
 returns-2 : tie.Need-returns-2
 unfolding planes_fit
 returns-2 c =
     rw (
       sym c.before.before.before.before.view_sized.ensures ∙ not-false _ c.before.before.before.if1.false,
-      sym c.before.view-sized2.ensures ∙ not_true _ c.if2.true,
+      sym c.before.view-sized2.ensures ∙ not-true _ c.if2.true,
     )
 
 returns-3 : tie.Need-returns-3

@@ -1,0 +1,18 @@
+use Prim.Native.Nat.{◌+◌, ◌-◌, ◌≤◌}
+use mathlib.Core.Bool.{cond}
+use mathlib.Core.Path.{◌≡◌, refl, ap, ◌∙◌}
+use native.Mathlib.Omega.{arith}
+use lib.Dec.{eqb}
+use lib.ListN.{length, length-set}
+use borrow.Author.Rules.{rules}
+use Rattle.model.specs.Marks.{mark_at}
+use Rattle.planes.specs.Parts.{Filled}
+use Rattle.planes.proofs.Fills.{filled_none, filled_next, filled_all}
+use Rattle.fill.proofs.fill_mask.Given as goal
+
+abbrev pub invariant-loop-k : goal.invariant-loop-k
+invariant-loop-k l =
+    (l.k ≤ length l.initial.room) × ((length l.room ≡ length l.initial.room) × Filled 0 (λ j. cond (eqb (mark_at l.bits (l.from + j)) 1) l.value1 l.value0) 0 l.k l.initial.room l.room)
+
+abbrev pub decreases-loop-k : goal.decreases-loop-k
+decreases-loop-k l = length l.initial.room - l.k

@@ -1,0 +1,23 @@
+use Prim.Native.Nat.{ℕ, ◌+◌, ◌*◌, ◌-◌, ◌<◌, ◌≤◌}
+use mathlib.Core.Path.{◌≡◌, refl, sym, ap, ◌∙◌}
+use mathlib.Core.List.{List}
+use native.Mathlib.Omega.{arith}
+use native.Mathlib.Nat.{mul-le-mul}
+use lib.ListN.{length}
+use borrow.Author.Rules.{rules}
+use Rattle.model.specs.declared.Split.{Split}
+use Rattle.model.specs.declared.Candidate.{Candidate}
+use Rattle.model.specs.declared.Candidate.TheVariants.{Regions}
+use Rattle.model.specs.Lists.{row_of}
+use Rattle.model.proofs.Lists.{rows_apart}
+use Rattle.planes.proofs.Splices.{part_length}
+use Rattle.fill.specs.Rows.{RowThere, room_of, filled_row}
+use Rattle.fill.proofs.Rows.{row_wide, rows_more, made_full, made_flat, made_regions}
+use Rattle.fill.proofs.fill_rows.Given as goal
+
+abbrev pub invariant-loop-k : goal.invariant-loop-k
+invariant-loop-k l =
+    (l.k ≤ l.n) × ((length l.room ≡ length l.initial.room) × ((j : ℕ) → j < l.k → row_of l.room l.width j ≡ filled_row l.width (Regions l.value0 l.value1 l.split) l.bytes (l.i + j)))
+
+abbrev pub decreases-loop-k : goal.decreases-loop-k
+decreases-loop-k l = l.n - l.k

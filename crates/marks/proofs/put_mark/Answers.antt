@@ -1,0 +1,6 @@
+-- `marks::put_mark` meets its contract.
+use borrow.Author.Rules.{rules}
+use Rattle.marks.proofs.put_mark.Goals as goal
+
+pub returns : goal.returns
+returns c = rw c.put_bit.ensures

@@ -1,0 +1,5 @@
+use borrow.Author.Rules.{rules}
+use Rattle.pixel.proofs.edge_pixel.Goals as goal
+
+pub returns : goal.returns
+returns c = rw c.sample_at.ensures

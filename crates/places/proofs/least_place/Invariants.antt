@@ -1,0 +1,14 @@
+use Prim.Native.Nat.{ℕ, ◌+◌, ◌-◌, ◌≤◌, min}
+use mathlib.Core.Path.{◌≡◌, sym, ap, ◌∙◌}
+use native.Mathlib.Omega.{arith}
+use Rattle.model.specs.Row.{place, least as leastOf}
+use Rattle.model.specs.Views.{seen}
+use Rattle.places.proofs.Lows.{least_none, least_back, least_all}
+use borrow.Author.Rules.{rules}
+use Rattle.places.proofs.least_place.Given as goal
+
+abbrev pub invariant-loop-i : goal.invariant-loop-i
+invariant-loop-i l = (l.i ≤ l.n) × (l.low ≡ leastOf (place l.table (seen l.right l.depths)) l.top (l.from + l.i) (l.n - l.i))
+
+abbrev pub decreases-loop-i : goal.decreases-loop-i
+decreases-loop-i l = l.i

@@ -1,0 +1,18 @@
+use Prim.Native.Nat.{◌≤◌, ◌-◌}
+use mathlib.Core.Path.{◌≡◌, ap, ◌∙◌}
+use native.Mathlib.Omega.{arith}
+use lib.ListN.{length, take, drop, length-set}
+use borrow.Author.Rules.{rules}
+use Rattle.rowtext.specs.Promise.{ZeroFrom}
+use Rattle.rowtext.specs.Reader.{read_line}
+use Rattle.rowtext.proofs.Lines.{ahead, turn_first, turn_on, turn_off, turn_end}
+use Rattle.rowtext.proofs.Entries.{zeros_zero, zeros_set}
+use Rattle.rowtext.proofs.read_line.Given as goal
+
+abbrev pub invariant-loop-k : goal.invariant-loop-k
+invariant-loop-k l =
+    (l.k ≤ l.w) × (length l.values ≡ 64) × ZeroFrom l.k l.values
+    × (read_line l.most l.w (drop l.from l.text) ≡ ahead (take l.k l.values) (read_line l.most (l.w - l.k) (drop l.at l.text)))
+
+abbrev pub decreases-loop-k : goal.decreases-loop-k
+decreases-loop-k l = l.w - l.k

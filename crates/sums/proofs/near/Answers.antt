@@ -1,0 +1,6 @@
+-- `sums::near` meets its contract.
+use borrow.Author.Rules.{rules}
+use Rattle.sums.proofs.near.Goals as goal
+
+pub returns : goal.returns
+returns c = rw c.apart.ensures

@@ -1,0 +1,35 @@
+-- `sums::paired` meets its contract: the sample is blended, or one of the two is taken.
+use mathlib.Core.Path.{◌≡◌, ◌∙◌}
+use mathlib.Core.Bool.{cond}
+use mathlib.Core.Logic.{⊎_elim}
+use borrow.Author.Rules.{rules}
+use borrow.Author.Tests.{leb-true, leb-false}
+use Rattle.sums.specs.Sides.{paired}
+use Rattle.sums.proofs.Sides.{both_shown_lem, shown_both, paired_blended, paired_chosen}
+use Rattle.sums.proofs.paired.Goals as goal
+use Rattle.sums.proofs.paired.Goals.{After-prefers}
+
+-- past the first test the two are not blended: a mark is not 0, or the depths are too far apart
+chosen : (c : After-prefers) →
+    let a = c.args in
+    cond c.prefers.result a.own.sample a.other.sample ≡ paired a.right a.share a.tolerance a.own a.other
+chosen c =
+    rw c.prefers.ensures
+    (paired_chosen c.args.right c.args.share c.args.tolerance c.args.own c.args.other
+    (λ p q.
+    ⊎_elim (λ x. leb-false _ _ (rw x.1.ensures at x.2.left))
+    (λ x. absurd (x.left (shown_both c.args.own.mark c.args.other.mark p q)))
+    c.if-own-other-eq0.branch))
+
+pub returns-then-near : goal.returns-then-near
+returns-then-near c =
+    let marks = both_shown_lem c.args.own.mark c.args.other.mark c.if-own-other-eq0.true in
+    let near = leb-true _ _ (rw c.near.ensures at c.if-near.true) in
+    c.blended.ensures
+    ∙ rw c.own_share-part.ensures.0 (paired_blended c.args.right c.args.share c.args.tolerance c.args.own c.args.other c.requires marks.0 marks.1 near)
+
+pub returns-then-prefers : goal.returns-then-prefers
+returns-then-prefers c = rw c.if-prefers.true at (chosen (goal.at.returns-then-prefers c).After-prefers)
+
+pub returns-else-prefers : goal.returns-else-prefers
+returns-else-prefers c = rw c.if-prefers.false at (chosen (goal.at.returns-else-prefers c).After-prefers)

@@ -1,0 +1,7 @@
+use Rattle.taps.specs.Sums.{half_of}
+use borrow.Author.Rules.{rules}
+use Rattle.taps.proofs.half_of.Goals as goal
+
+pub returns : goal.returns
+unfolding half_of
+returns c = c.scale.ensures
