@@ -78,15 +78,15 @@ unfolding plain_number plain_accepted plain_next plain_journal plain_change plai
 go r ok halted p e = (record { session = e; events = refl; kept = tt; usual = tt }, ok)
 go r ok (got {v = v} {b = b} {c = c} {x = x} t h k) p e =
     let f = get_done r ok [] p e refl v b c x t h in
-    more r (get v b c x) f refl e (go _ (done_ready f ok) k (same_pictures r (get v b c x) p p) (done_after f))
+    more r (get v b c x) f refl e (go (plain_next r (get v b c x)) (done_ready f ok) k (same_pictures r (get v b c x) p p) (done_after f))
 go r ok (wrote {v = v} {b = b} {c = c} {x = x} {j = j} t d' h' j' h k) p e =
     let f = set_done r ok j p e refl v b c x t d' h' j' h in
     more r (set v b c x j) f (done_journal f) (edit_kept r ok v b (filled b c x) f (λ z. (set_own r.settings v b c (length x) _ z).block))
-    (go _ (done_ready f ok) k (same_pictures r (set v b c x j) p p) (done_after f))
+    (go (plain_next r (set v b c x j)) (done_ready f ok) k (same_pictures r (set v b c x j) p p) (done_after f))
 go r ok (moved {to = to} {reference = reference} {j = j} t h' j' h k) p e =
     let f = move_done r ok j p e refl to reference t h' j' h in
     let pictures = next_pictures (λ (x : Plain). x.pictures) (plain_number r (move to reference j)) (plain_accepted r (move to reference j)) r reference f.number p refl in
-    more r (move to reference j) f (done_journal f) (move_kept f refl) (go _ (done_ready f ok) k pictures (done_after f))
+    more r (move to reference j) f (done_journal f) (move_kept f refl) (go (plain_next r (move to reference j)) (done_ready f ok) k pictures (done_after f))
 
 module _ (s : Settings) (p : Pictures) (d : Depths) (h₀ h : Held) (j₀ j : List ℕ) (o : Opened) (post : OpenPost s p d h₀ h j₀ j o) (accepted : number_of o.refusal ≡ 0) {cs : List Call} {es : List Event} {last : State} (run : Run p (leaves o.settings d h) cs es last) where
   leaves_first : leaves o.settings d h ≡ plain_state (plain s p d)
@@ -134,7 +134,7 @@ halted_as_opened run h₀ h j₀ j o post accepted = fill_leaves _ _ _ _ h₀ h 
 
 -- a run halted after its first n calls
 pub halts :
-    {p : Pictures} {st last : State} {cs : List Call} {es : List Event} (n : ℕ) → Run p st cs es last → Run p st (take n cs) (take n es) (state_after st (take n es))
+    {last : State} (n : ℕ) {p : Pictures} {st : State} {cs : List Call} {es : List Event} → Run p st cs es last → Run p st (take n cs) (take n es) (state_after st (take n es))
 unfolding state_after
 halts zero k = halted
 halts (suc n) halted = halted

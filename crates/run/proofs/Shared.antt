@@ -260,12 +260,12 @@ go r fs h (got {v = v} {b = b} {c = c} {x = x} t post k) p e i =
     let f = get_done (stands_as r) (ready_now h) r.journal p e i v b c x t post in
     let call : SharedCall = get v b c x in
     more r call f fs h (e, i) tt
-    (go _ _ (get_between r fs h v b c x _) k (same_pictures r call f p refl) (after_next r call f) (journal_next r call f))
+    (go (shared_next r call) _ (get_between r fs h v b c x _) k (same_pictures r call f p refl) (after_next r call f) (journal_next r call f))
 go r fs h (wrote {v = v} {b = b} {c = c} {x = x} t d' h' j' post k) p e i =
     let f = set_done (stands_as r) (ready_now h) r.journal p e i v b c x t d' h' j' post in
     let call : SharedCall = set v b c x in
     more r call f fs h (edit_kept (stands_as r) (ready_now h) v b (filled b c x) f (λ z. (set_own r.start.settings v b c (length x) _ z).block)) tt
-    (go _ _ (set_between r fs h v b c x _ f post.edit.eight_bit) k (same_pictures r call f p refl) (after_next r call f) (journal_next r call f))
+    (go (shared_next r call) _ (set_between r fs h v b c x _ f post.edit.eight_bit) k (same_pictures r call f p refl) (after_next r call f) (journal_next r call f))
 go r fs h (took t d' h' j' post k) p e i =
     let s : Settings = r.start.settings in
     let d : Depths = r.start.depths in
@@ -276,12 +276,12 @@ go r fs h (took t d' h' j' post k) p e i =
     let f : Answers r take_back _ = done_as w _ _ (λ z. ap (plain s r.start.pictures) (back z)) (λ z. change_of_lem (stands_as r) _ _ _ (back z)) in
     more r take_back f fs h (edit_kept (stands_as r) (ready_now h) _ _ _ w (taken_inside s d J ks h.ledger))
     (restores r.start J fs ks _ h.ledger h.stacked f)
-    (go _ _ (take_between r fs h _) k (same_pictures r take_back f p refl) (after_next r take_back f) (journal_next r take_back f))
+    (go (shared_next r take_back) _ (take_between r fs h _) k (same_pictures r take_back f p refl) (after_next r take_back f) (journal_next r take_back f))
 go r fs h (moved {to = to} {reference = reference} t h' j' post k) p e i =
     let f = move_done (stands_as r) (ready_now h) r.journal p e i to reference t h' j' post in
     let call : SharedCall = move to reference in
     more r call f fs h (move_kept f refl) tt
-    (go _ _ (move_between r fs h to reference _ f) k
+    (go (shared_next r call) _ (move_between r fs h to reference _ f) k
     (next_pictures (λ (y : SharedPlain). y.start.pictures) (shared_number r call) (accepted r call) r reference f.number p refl)
     (after_next r call f) (journal_next r call f))
 
@@ -369,7 +369,7 @@ shared_as_opened run h₀ h j₀ j o post accepted = fill_leaves _ _ _ _ h₀ h 
 
 -- a run halted after its first n calls
 pub shared_halts :
-    {p : Pictures} {st last : State} {j end : List ℕ} {cs : List SharedCall} {es : List Event} (n : ℕ) → SharedRun p st j cs es last end →
+    {last : State} {end : List ℕ} (n : ℕ) {p : Pictures} {st : State} {j : List ℕ} {cs : List SharedCall} {es : List Event} → SharedRun p st j cs es last end →
     SharedRun p st j (take n cs) (take n es) (state_after st (take n es)) (journal_after j (take n es))
 unfolding state_after journal_after
 shared_halts zero k = halted

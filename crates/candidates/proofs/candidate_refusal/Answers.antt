@@ -23,7 +23,7 @@ returns-then-not-line_ok c =
     rw (
       c.in-Regions.is,
       c.in-Line.is,
-      sym c.line_ok.ensures ∙ not-true _ c.if-not-line_ok.true,
+      sym c.line_ok.ensures ∙ c.if-not-line_ok.true,
     )
 
 pub overflow_add-area : goal.overflow_add-area
@@ -48,7 +48,7 @@ returns-else-not-line_ok c =
     rw (
       c.in-Regions.is,
       c.in-Line.is,
-      sym c.line_ok.ensures ∙ not-false _ c.if-not-line_ok.false,
+      sym c.line_ok.ensures ∙ c.if-not-line_ok.false,
     )
 
 pub returns-else-n-area-2 : goal.returns-else-n-area-2

@@ -1,6 +1,6 @@
 -- `fill::fill_rows` meets its contract: the rows passed are made, and each is made in its own part of the room.
 use Prim.Native.Nat.{ℕ, ◌+◌, ◌*◌, ◌-◌, ◌<◌, ◌≤◌}
-use mathlib.Core.Path.{◌≡◌, refl, sym, ap, ◌∙◌}
+use mathlib.Core.Path.{◌≡◌, refl, sym, ap, ◌∙◌, subst}
 use mathlib.Core.List.{List}
 use native.Mathlib.Omega.{arith}
 use native.Mathlib.Nat.{mul-le-mul}
@@ -47,7 +47,8 @@ fill_regions-requires c =
     let m = holds c.args.candidate c.args.width c.args.n c.args.room.now c.in-Regions.is c.requires.room_len.0 in
     let t = rw c.in-Regions.is at (c.requires.rows_there.0 c.loop-k.k (omega arith)) in
     let n = part_length c.loop-k.room (c.loop-k.k * c.args.width) c.args.width (omega (arith, m, c.loop-k.invariant.1.0, rows_apart c.args.width c.loop-k.k c.args.n (omega arith))) in
-    (rw n t, (omega (arith, n), omega arith))
+    let P : ℕ → Type 0 = λ (x : ℕ). RowThere x (Regions c.in-Regions.value0 c.in-Regions.value1 c.in-Regions.split) c.args.bytes.now (c.args.i + c.loop-k.k) in
+    (subst P (sym n) t, (omega (arith, n), omega arith))
 
 pub overflow_add-k : goal.overflow_add-k
 overflow_add-k c = omega arith

@@ -14,4 +14,4 @@ returns-then-tear-gt64 c = sym (not_true _ (λ t. let f = tear_facts _ t in omeg
 
 pub returns : goal.returns
 unfolding tear_ok
-returns c = rw (le-leb 4 _ c.if-tear-lt4.left, le-leb _ 64 c.if-tear-gt64.left)
+returns c = rw (le-leb 4 _ c.if-tear-lt4.false, le-leb _ 64 c.if-tear-gt64.false)

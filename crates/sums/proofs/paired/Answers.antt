@@ -11,15 +11,13 @@ use Rattle.sums.proofs.paired.Goals.{After-prefers}
 
 -- past the first test the two are not blended: a mark is not 0, or the depths are too far apart
 chosen : (c : After-prefers) →
-    let a = c.args in
-    cond c.prefers.result a.own.sample a.other.sample ≡ paired a.right a.share a.tolerance a.own a.other
+    cond c.prefers.result c.args.own.sample c.args.other.sample ≡ paired c.args.right c.args.share c.args.tolerance c.args.own c.args.other
 chosen c =
     rw c.prefers.ensures
     (paired_chosen c.args.right c.args.share c.args.tolerance c.args.own c.args.other
-    (λ p q.
-    ⊎_elim (λ x. leb-false _ _ (rw x.1.ensures at x.2.left))
-    (λ x. absurd (x.left (shown_both c.args.own.mark c.args.other.mark p q)))
-    c.if-own-other-eq0.branch))
+    (λ p q. elim c.if-own-other-eq0.branch [
+      goal.then-own-other-eq0+else-near w ↦ leb-false _ _ (rw w.near.ensures at w.if-near.false)
+      | goal.else-own-other-eq0 w ↦ absurd (w.if-own-other-eq0.false (shown_both c.args.own.mark c.args.other.mark p q)) ]))
 
 pub returns-then-near : goal.returns-then-near
 returns-then-near c =

@@ -1,0 +1,20 @@
+use Prim.Native.Nat.{ℕ, ◌+◌, ◌-◌, ◌≤◌}
+use mathlib.Core.List.{List}
+use mathlib.Core.Path.{◌≡◌, refl, ◌∙◌}
+use native.Mathlib.Omega.{arith}
+use lib.ListN.{length, length-set}
+use borrow.Author.Rules.{rules}
+use Rattle.marks.specs.Puts.{held_pixel}
+use Rattle.sums.specs.Sides.{paired}
+use Rattle.planes.specs.Parts.{Filled}
+use Rattle.planes.proofs.Fills.{filled_none, filled_next, filled_all}
+use Rattle.blend.specs.Blend.{Reaches, combined_part}
+use Rattle.blend.proofs.blend_part.Given as goal
+
+abbrev pub invariant-loop-i : goal.invariant-loop-i
+invariant-loop-i l =
+    (l.i ≤ length l.initial.part) × ((length l.part ≡ length l.initial.part)
+    × Filled 0 (λ k. paired l.right l.share l.tolerance (held_pixel l.samples l.fronts l.marks (l.from + k)) (held_pixel l.samples2 l.fronts2 l.marks2 (l.from + k))) 0 l.i l.initial.part l.part)
+
+abbrev pub decreases-loop-i : goal.decreases-loop-i
+decreases-loop-i l = length l.initial.part - l.i

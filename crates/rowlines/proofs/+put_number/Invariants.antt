@@ -1,0 +1,5 @@
+-- It ends because the number falls.
+use Rattle.rowlines.proofs.+put_number.Given as goal
+
+abbrev pub decreases-put_number : goal.decreases-put_number
+decreases-put_number l = l.n
