@@ -45,7 +45,9 @@ front_join f top e c zero n = let i : c + 0 ≡ c = omega arith in let k : 0 + n
 front_join f top e c (suc m) n =
     let i : c + suc m ≡ suc c + m = omega arith in
     let k : suc m + n ≡ suc (m + n) = omega arith in
-    rw (i, k) (rw (least_join f top (suc c) m n) (ap (cond (ltb (f c) (least f top (suc c) (m + n))) c) (front_join f top e (suc c) m n)))
+    let r : front f (least f top (suc c + m) n) (front f top e (suc c + m) n) c (suc m) ≡ front f top e c (suc (m + n)) =
+        rw (least_join f top (suc c) m n) (ap (cond (ltb (f c) (least f top (suc c) (m + n))) c) (front_join f top e (suc c) m n)) in
+    ap (λ (q : ℕ). front f (least f top q n) (front f top e q n) c (suc m)) i ∙ (r ∙ sym (ap (front f top e c) k))
 
 -- taken in two parts: g is the edge right of the columns below n, and h that right of those below m
 pub front_below_lem : (f : ℕ → ℕ) (g h : Edge) (n m c : ℕ) → c ≤ m → m ≤ n → h.limit ≡ limit_below f g.limit n m → h.column ≡ front_below f g n m → front_below f h m c ≡ front_below f g n c

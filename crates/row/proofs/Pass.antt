@@ -3,7 +3,7 @@
 --     passed_none, passed_less, passed_join, passed_pixel, step_passed    the columns that were passed
 --     owner_passed                             the first column that is placed at most at a position owns it
 use Prim.Native.Nat.{ℕ, ◌+◌, ◌-◌, ◌*◌, ◌<◌, ◌≤◌}
-use mathlib.Core.Path.{◌≡◌, sym, ap, ◌∙◌}
+use mathlib.Core.Path.{◌≡◌, sym, ap, subst, ◌∙◌}
 use mathlib.Core.Bool.{Bool}
 use mathlib.Core.Logic.{⊎_elim}
 use native.Mathlib.Omega.{arith}
@@ -56,8 +56,8 @@ module _ {right : Bool} {l : Line} {stop : ℕ} {q : Pair} (h : Ahead right l st
       record {
         among = a;
         stands = s;
-        under = rw (ee, e) (past_cases q (λ (g : Edge). g.limit ≤ q.here) (λ u. omega arith) (λ u. u));
-        before = rw ee (past_cases q (λ (g : Edge). stop ≤ first_at g.limit) (λ u. later q.here k) (λ u. h.before));
+        under = subst (λ (g : Edge). g.limit ≤ r.next) (sym ee) (subst (λ (x : ℕ). (edge_past q).limit ≤ x) (sym e) (past_cases q (λ (g : Edge). g.limit ≤ q.here) (λ u. omega arith) (λ u. u)));
+        before = subst (λ (g : Edge). stop ≤ first_at g.limit) (sym ee) (past_cases q (λ (g : Edge). stop ≤ first_at g.limit) (λ u. later q.here k) (λ u. h.before));
       }
     where
       later : (x : ℕ) → last_below stop < x → stop ≤ first_at x

@@ -21,10 +21,6 @@ w-ok c = sym c.side_ok.ensures ∙ c.if-not-side_ok.false
 h-ok : (c : Else-not-side_ok-2) → side_ok c.args.h ≡ true
 h-ok c = sym c.side_ok-2.ensures ∙ c.if-not-side_ok-2.false
 
--- whether the right marks have their length
-abbrev right-sized : (c : Else-not-side_ok-2) → Bool
-right-sized c = eqb (length c.args.right.now) (mark_bytes c.args.w * c.args.h)
-
 pub returns-then-not-side_ok : goal.returns-then-not-side_ok
 unfolding holes_number size_ok
 returns-then-not-side_ok c = rw (sym c.side_ok.ensures ∙ c.if-not-side_ok.true)
@@ -44,14 +40,15 @@ pub returns-then-left-bytes : goal.returns-then-left-bytes
 unfolding holes_number size_ok
 returns-then-left-bytes c =
     rw (w-ok (goal.at.returns-then-left-bytes c).Else-not-side_ok, h-ok (goal.at.returns-then-left-bytes c).Else-not-side_ok-2)
-    (⊎_elim (λ x. rw (ne_eqb _ _ x.taken)) (λ x. rw (eq-eqb _ _ x.0.left, not-true (right-sized (goal.at.returns-then-left-bytes c).Else-not-side_ok-2) x.1.taken)) c.then-left-bytes.branch)
+    (⊎_elim (λ x. rw (ne_eqb (length c.args.left.now) (mark_bytes c.args.w * c.args.h) x))
+    (λ x. rw (eq-eqb _ _ x.0, ne_eqb (length c.args.right.now) (mark_bytes c.args.w * c.args.h) x.1)) c.then-left-bytes.either)
 
 pub returns-then-view-gt1 : goal.returns-then-view-gt1
 unfolding holes_number size_ok
 returns-then-view-gt1 c =
-    rw (w-ok (goal.at.returns-then-view-gt1 c).Else-not-side_ok, h-ok (goal.at.returns-then-view-gt1 c).Else-not-side_ok-2, eq-eqb _ _ c.then-left-bytes.false, not-false (right-sized (goal.at.returns-then-view-gt1 c).Else-not-side_ok-2) c.if-right-bytes.false, lt-leb _ _ c.if-view-gt1.true)
+    rw (w-ok (goal.at.returns-then-view-gt1 c).Else-not-side_ok, h-ok (goal.at.returns-then-view-gt1 c).Else-not-side_ok-2, eq-eqb _ _ c.if-left-bytes.false, eq-eqb _ _ c.if-right-bytes.false, lt-leb _ _ c.if-view-gt1.true)
 
 pub returns : goal.returns
 unfolding holes_number size_ok
 returns c =
-    rw (w-ok (goal.at.returns c).Else-not-side_ok, h-ok (goal.at.returns c).Else-not-side_ok-2, eq-eqb _ _ c.then-left-bytes.false, not-false (right-sized (goal.at.returns c).Else-not-side_ok-2) c.if-right-bytes.false, le-leb _ _ c.if-view-gt1.false)
+    rw (w-ok (goal.at.returns c).Else-not-side_ok, h-ok (goal.at.returns c).Else-not-side_ok-2, eq-eqb _ _ c.if-left-bytes.false, eq-eqb _ _ c.if-right-bytes.false, le-leb _ _ c.if-view-gt1.false)

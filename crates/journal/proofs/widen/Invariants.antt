@@ -1,0 +1,15 @@
+use Prim.Native.Nat.{◌-◌, ◌≤◌}
+use mathlib.Core.Path.{◌≡◌, refl, ◌∙◌}
+use native.Mathlib.Omega.{arith}
+use lib.ListN.{length, get_or, length-set}
+use borrow.Author.Rules.{rules}
+use Rattle.planes.specs.Parts.{Filled}
+use Rattle.planes.proofs.Fills.{filled_none, filled_next, filled_copy}
+use Rattle.journal.proofs.widen.Given as goal
+
+abbrev pub invariant-loop-i : goal.invariant-loop-i
+invariant-loop-i l =
+    (l.i ≤ length l.depths) × ((length l.words ≡ length l.initial.words) × Filled 0 (λ k. get_or l.depths k 0) 0 l.i l.initial.words l.words)
+
+abbrev pub decreases-loop-i : goal.decreases-loop-i
+decreases-loop-i l = length l.depths - l.i
