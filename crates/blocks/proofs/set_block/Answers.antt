@@ -9,17 +9,17 @@ pub slice_bounds-set_rows-end : goal.slice_bounds-set_rows-end
 slice_bounds-set_rows-end c = sym (length-take-le _ c.short_room-room.result (omega (arith, c.short_room-room.ensures, c.if-n-le256.true)))
 
 pub set_rows-requires : goal.set_rows-requires
-set_rows-requires c = record { table_value = c.requires.table_value; sized = c.requires.sized; other_sized = c.requires.other_sized; block_in = (c.requires.block_in.0, (c.requires.block_in.1, sym (slice_bounds-set_rows-end c) ∙ c.room_of-n.ensures)) }
+set_rows-requires c = record { table_value = c.requires.table_value; sized = c.requires.sized; other_sized = c.requires.other_sized; block_in = (c.requires.block_in.0, (c.requires.block_in.1, (length-take-le _ c.short_room-room.result (omega (arith, c.short_room-room.ensures, c.if-n-le256.true))) ∙ c.room_of-n.ensures)) }
 
 pub slice_bounds-room-end-2 : goal.slice_bounds-room-end-2
 slice_bounds-room-end-2 c =
     omega (arith, c.long_room-room.ensures, c.room_of-n.ensures, room_most c.args.candidate c.args.width, c.requires.block_in.0.right, c.requires.table_value.1.1.0)
 
 pub slice_bounds-set_rows-end-2 : goal.slice_bounds-set_rows-end-2
-slice_bounds-set_rows-end-2 c = sym (length-take-le _ c.long_room-room.result (slice_bounds-room-end-2 c))
+slice_bounds-set_rows-end-2 c = sym (length-take-le _ c.long_room-room.result (omega (arith, c.long_room-room.ensures, c.room_of-n.ensures, room_most c.args.candidate c.args.width, c.requires.block_in.0.right, c.requires.table_value.1.1.0)))
 
 pub set_rows-requires-2 : goal.set_rows-requires-2
-set_rows-requires-2 c = record { table_value = c.requires.table_value; sized = c.requires.sized; other_sized = c.requires.other_sized; block_in = (c.requires.block_in.0, (c.requires.block_in.1, sym (slice_bounds-set_rows-end-2 c) ∙ c.room_of-n.ensures)) }
+set_rows-requires-2 c = record { table_value = c.requires.table_value; sized = c.requires.sized; other_sized = c.requires.other_sized; block_in = (c.requires.block_in.0, (c.requires.block_in.1, length-take-le _ c.long_room-room.result (omega (arith, c.long_room-room.ensures, c.room_of-n.ensures, room_most c.args.candidate c.args.width, c.requires.block_in.0.right, c.requires.table_value.1.1.0)) ∙ c.room_of-n.ensures)) }
 
 pub slice_bounds-room-end : goal.slice_bounds-room-end
 slice_bounds-room-end c = omega (arith, c.short_room-room.ensures, c.if-n-le256.true)
