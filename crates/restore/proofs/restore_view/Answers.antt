@@ -1,0 +1,99 @@
+-- `restore::restore_view` meets its contract, for either view.
+use mathlib.Core.Bool.{true, false}
+use mathlib.Core.Path.{refl}
+use borrow.Author.Tests.{eq-eqb, ne_eqb}
+use Rattle.model.specs.Planes.{pictures, depths}
+use Rattle.decide.specs.Decided.{settings_of, held_of}
+use Rattle.settled.proofs.Settling.{own_requires, settled_by}
+use Rattle.restore.proofs.Parts.{saved_passed}
+use Rattle.restore.proofs.restore_view.Goals as goal
+
+pub restore-requires : goal.restore-requires
+restore-requires c =
+    let s = settings_of c.args.w c.args.h c.args.leftTable.now c.args.rightTable.now c.args.share c.args.tolerance c.args.tear c.args.total in
+    let p = pictures c.args.left.now c.args.right.now c.args.reference.now in
+    let d = depths c.args.leftDepths.now c.args.rightDepths.now in
+    let h = held_of c.args.leftSamples.now c.args.leftFronts.now c.args.leftLimits.now c.args.leftMarks.now c.args.rightSamples.now c.args.rightFronts.now c.args.rightLimits.now c.args.rightMarks.now c.args.combined.now in
+    let f = saved_passed s p d h c.args.block c.args.words.now c.requires in
+    let r = own_requires s p d h c.args.block c.args.words.now f true in record { table_value = r.0; sized = r.1.0; sized_2 = r.1.1.0; fits = (r.1.1.1, c.requires.depths) }
+
+pub returns-then-view-eq1 : goal.returns-then-view-eq1
+returns-then-view-eq1 c =
+    let s = settings_of c.args.w c.args.h c.args.leftTable.now c.args.rightTable.now c.args.share c.args.tolerance c.args.tear c.args.total in
+    let p = pictures c.args.left.now c.args.right.now c.args.reference.now in
+    let d = depths c.args.leftDepths.now c.args.rightDepths.now in
+    let h = held_of c.args.leftSamples.now c.args.leftFronts.now c.args.leftLimits.now c.args.leftMarks.now c.args.rightSamples.now c.args.rightFronts.now c.args.rightLimits.now c.args.rightMarks.now c.args.combined.now in
+    let f = saved_passed s p d h c.args.block c.args.words.now c.requires in
+    settled_by s p d h c.args.block c.args.words.now f c.args.view 0 true (eq-eqb c.args.view 1 c.if-view-eq1.true) _ _ _ _ c.restore.ensures
+
+pub restore-requires-2 : goal.restore-requires-2
+restore-requires-2 c =
+    let s = settings_of c.args.w c.args.h c.args.leftTable.now c.args.rightTable.now c.args.share c.args.tolerance c.args.tear c.args.total in
+    let p = pictures c.args.left.now c.args.right.now c.args.reference.now in
+    let d = depths c.args.leftDepths.now c.args.rightDepths.now in
+    let h = held_of c.args.leftSamples.now c.args.leftFronts.now c.args.leftLimits.now c.args.leftMarks.now c.args.rightSamples.now c.args.rightFronts.now c.args.rightLimits.now c.args.rightMarks.now c.args.combined.now in
+    let f = saved_passed s p d h c.args.block c.args.words.now c.requires in
+    let r = own_requires s p d h c.args.block c.args.words.now f false in record { table_value = r.0; sized = r.1.0; sized_2 = r.1.1.0; fits = (r.1.1.1, c.requires.depths) }
+
+pub returns : goal.returns
+returns c =
+    let s = settings_of c.args.w c.args.h c.args.leftTable.now c.args.rightTable.now c.args.share c.args.tolerance c.args.tear c.args.total in
+    let p = pictures c.args.left.now c.args.right.now c.args.reference.now in
+    let d = depths c.args.leftDepths.now c.args.rightDepths.now in
+    let h = held_of c.args.leftSamples.now c.args.leftFronts.now c.args.leftLimits.now c.args.leftMarks.now c.args.rightSamples.now c.args.rightFronts.now c.args.rightLimits.now c.args.rightMarks.now c.args.combined.now in
+    let f = saved_passed s p d h c.args.block c.args.words.now c.requires in
+    settled_by s p d h c.args.block c.args.words.now f c.args.view 0 false (ne_eqb c.args.view 1 c.if-view-eq1.false) _ _ _ _ c.restore-2.ensures
+
+pub shape_of-rightDepths-then-view-eq1 : goal.shape_of-rightDepths-then-view-eq1
+shape_of-rightDepths-then-view-eq1 c = c.restore.auto.depths
+
+pub shape_of-leftSamples-then-view-eq1 : goal.shape_of-leftSamples-then-view-eq1
+shape_of-leftSamples-then-view-eq1 c = refl
+
+pub shape_of-leftFronts-then-view-eq1 : goal.shape_of-leftFronts-then-view-eq1
+shape_of-leftFronts-then-view-eq1 c = refl
+
+pub shape_of-leftMarks-then-view-eq1 : goal.shape_of-leftMarks-then-view-eq1
+shape_of-leftMarks-then-view-eq1 c = refl
+
+pub shape_of-rightSamples-then-view-eq1 : goal.shape_of-rightSamples-then-view-eq1
+shape_of-rightSamples-then-view-eq1 c = c.restore.auto.samples
+
+pub shape_of-rightFronts-then-view-eq1 : goal.shape_of-rightFronts-then-view-eq1
+shape_of-rightFronts-then-view-eq1 c = c.restore.auto.fronts
+
+pub shape_of-rightLimits-then-view-eq1 : goal.shape_of-rightLimits-then-view-eq1
+shape_of-rightLimits-then-view-eq1 c = c.restore.auto.limits
+
+pub shape_of-rightMarks-then-view-eq1 : goal.shape_of-rightMarks-then-view-eq1
+shape_of-rightMarks-then-view-eq1 c = c.restore.auto.marks
+
+pub shape_of-combined-then-view-eq1 : goal.shape_of-combined-then-view-eq1
+shape_of-combined-then-view-eq1 c = c.restore.auto.combined
+
+pub shape_of-leftDepths : goal.shape_of-leftDepths
+shape_of-leftDepths c = c.restore-2.auto.depths
+
+pub shape_of-leftSamples : goal.shape_of-leftSamples
+shape_of-leftSamples c = c.restore-2.auto.samples
+
+pub shape_of-leftFronts : goal.shape_of-leftFronts
+shape_of-leftFronts c = c.restore-2.auto.fronts
+
+pub shape_of-leftLimits : goal.shape_of-leftLimits
+shape_of-leftLimits c = c.restore-2.auto.limits
+
+pub shape_of-leftMarks : goal.shape_of-leftMarks
+shape_of-leftMarks c = c.restore-2.auto.marks
+
+pub shape_of-rightSamples : goal.shape_of-rightSamples
+shape_of-rightSamples c = refl
+
+pub shape_of-rightFronts : goal.shape_of-rightFronts
+shape_of-rightFronts c = refl
+
+pub shape_of-rightMarks : goal.shape_of-rightMarks
+shape_of-rightMarks c = refl
+
+pub shape_of-combined : goal.shape_of-combined
+shape_of-combined c = c.restore-2.auto.combined

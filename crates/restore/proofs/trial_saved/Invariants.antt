@@ -1,0 +1,20 @@
+use Prim.Native.Nat.{ℕ, ◌+◌, ◌-◌, ◌≤◌}
+use mathlib.Core.Path.{◌≡◌, sym, subst, ◌∙◌}
+use native.Mathlib.Omega.{arith}
+use native.Mathlib.Nat.{mul_comm}
+use lib.ListN.{length}
+use lib.Seq.{length-take-le}
+use Rattle.planes.specs.Parts.{block_of}
+use Rattle.strips.specs.Strips.{around, own}
+use Rattle.trial.specs.Trial.{BlockTrial}
+use Rattle.trial.proofs.Blocks.{block_none, block_small}
+use Rattle.restore.proofs.Parts.{narrow_requires, block_saved}
+use Rattle.restore.proofs.trial_saved.Given as goal
+
+abbrev pub invariant-loop-done : goal.invariant-loop-done
+invariant-loop-done l =
+    (l.done ≤ l.height) × ((length l.room ≡ 4096)
+    × BlockTrial l.w (around l.right l.share l.tolerance l.samples l.fronts l.marks l.combined l.reference) (own l.tear l.table l.texture l.depths l.limits) (block_of l.column l.row l.width l.height) l.words l.done l.old l.new)
+
+abbrev pub decreases-loop-done : goal.decreases-loop-done
+decreases-loop-done l = l.height - l.done
