@@ -5,7 +5,7 @@
 --     line_row, mask_row, rows_more, made-..     rows as they are made
 use Prim.Native.Nat.{ℕ, ◌+◌, ◌-◌, ◌*◌, ◌<◌, ◌≤◌}
 use mathlib.Core.Path.{◌≡◌, refl, sym, ap, ◌∙◌}
-use mathlib.Core.Bool.{Bool, true, cond, not, true≢false}
+use mathlib.Core.Bool.{Bool, true, cond, true≢false}
 use mathlib.Core.List.{List, ◌++◌}
 use mathlib.Core.Logic.{⊎_elim}
 use native.Mathlib.Omega.{arith}
@@ -21,7 +21,7 @@ use Rattle.model.specs.declared.Candidate.{Candidate}
 use Rattle.model.specs.declared.Candidate.TheVariants.{Full, Flat, Regions}
 use Rattle.model.specs.Lists.{list_of, row_of}
 use Rattle.model.specs.Marks.{mark_bytes, mark_at}
-use Rattle.model.specs.Candidates.{positions, in_region1, filled, on_border, side_shared, line_ok}
+use Rattle.model.specs.Candidates.{positions, in_region1, filled, on_border, line_ok}
 use Rattle.model.specs.Refusals.{candidate_then}
 use Rattle.model.proofs.Choice.{lt_or_le, and_left, and_right}
 use Rattle.model.proofs.Lists.{length-list_of, get_or-list_of, list_of_lem, list_same, rows_apart, length-row, length_plane_row, get_or_row, entry_fits}

@@ -1,11 +1,11 @@
 -- 8 judged by two sums.
 --     judged_out, judged_in              out of range, and in it
 --     then_eight, then_rest, then_none   and then the rest of the call's list
-use Prim.Native.Nat.{ℕ, ◌+◌}
+use Prim.Native.Nat.{ℕ}
 use mathlib.Core.Path.{◌≡◌, sym, ◌∙◌}
 use mathlib.Core.Bool.{true, false}
 use native.Mathlib.Omega.{arith}
-use lib.IntN.{ℤ, pos, sub_ℕ, ◌+ℤ◌, nat_abs}
+use lib.IntN.{pos, sub_ℕ, ◌+ℤ◌, nat_abs}
 use Rattle.model.specs.Refusals.{number_of, within}
 use Rattle.model.proofs.Choice.{bool_cases}
 use Rattle.judge.specs.declared.Decision.{Decision}

@@ -1,5 +1,5 @@
 -- Document 01, GET and SET of "Calls and what they turn down": 8, and the total moved.
-use Rattle.std.specs.Prelude.{ℕ, ◌+◌, ◌≡◌, ℤ, pos, ◌+ℤ◌, nat_abs}
+use Rattle.std.specs.Prelude.{ℕ, ◌≡◌, pos, ◌+ℤ◌, nat_abs}
 use Rattle.std.proofs.Math.IntN.{sub_ℕ}
 use Rattle.model.specs.Refusals.{number_of, unless, within}
 use Rattle.judge.specs.declared.Decision.{Decision}

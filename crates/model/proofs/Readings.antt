@@ -20,12 +20,12 @@ use Rattle.model.specs.declared.Settings.{Settings}
 use Rattle.model.specs.Lists.{list_of, row_of}
 use Rattle.model.specs.Row.{greatest, read, sample_in}
 use Rattle.model.specs.Views.{seen, entry_of}
-use Rattle.model.specs.Planes.{Pictures, Depths, View, Held, held, view, view_of, read_all, read_view, read_held}
-use Rattle.model.specs.Fresh.{fresh_row, fresh_sample, fresh_view, fresh_combined, fresh}
+use Rattle.model.specs.Planes.{Pictures, Depths, Held, view_of, read_all, read_view, read_held}
+use Rattle.model.specs.Fresh.{fresh_sample, fresh_view, fresh_combined, fresh}
 use Rattle.model.specs.Refusals.{words_ok, unless, picture_ok, pictures_ok, open_number}
 use Rattle.model.specs.Promises.{Sound}
 use Rattle.model.proofs.Choice.{lt_or_le, and_left, and_right}
-use Rattle.model.proofs.Lists.{length-list_of, get_or-list_of, list_of_lem, get_or_row, row_ext, plane_ext}
+use Rattle.model.proofs.Lists.{length-list_of, get_or-list_of, get_or_row, row_ext, plane_ext}
 use Rattle.model.proofs.Views.{get_or_seen}
 use Rattle.model.proofs.Fresh.{DepthsSized, row_fresh_samples, length-fresh_samples, row_fresh_combined, length-fresh_combined}
 use Rattle.model.proofs.Totals.{read_most, read_same, shown_most, sample_most}

@@ -46,7 +46,7 @@ front_join f top e c (suc m) n =
     let i : c + suc m ≡ suc c + m = omega arith in
     let k : suc m + n ≡ suc (m + n) = omega arith in
     let r : front f (least f top (suc c + m) n) (front f top e (suc c + m) n) c (suc m) ≡ front f top e c (suc (m + n)) =
-        rw (least_join f top (suc c) m n) (ap (cond (ltb (f c) (least f top (suc c) (m + n))) c) (front_join f top e (suc c) m n)) in
+    rw (least_join f top (suc c) m n) (ap (cond (ltb (f c) (least f top (suc c) (m + n))) c) (front_join f top e (suc c) m n)) in
     ap (λ (q : ℕ). front f (least f top q n) (front f top e q n) c (suc m)) i ∙ (r ∙ sym (ap (front f top e c) k))
 
 -- taken in two parts: g is the edge right of the columns below n, and h that right of those below m

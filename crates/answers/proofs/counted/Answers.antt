@@ -1,6 +1,5 @@
 -- `answers::counted` meets its contract, case by case.
 use Rattle.answers.proofs.Told.{count_refused, count_holes}
-use borrow.Author.Rules.{rules}
 use Rattle.answers.proofs.counted.Goals as goal
 
 pub returns-in-Refused : goal.returns-in-Refused

@@ -1,6 +1,5 @@
 -- `answers::reported` meets its contract, case by case.
 use Rattle.answers.proofs.Told.{report_refused, report_sound, report_difference, report_total}
-use borrow.Author.Rules.{rules}
 use Rattle.answers.proofs.reported.Goals as goal
 
 pub returns-in-Refused : goal.returns-in-Refused

@@ -1,6 +1,5 @@
 -- `blend::blend_at` meets its contract.
 use mathlib.Core.Path.{◌∙◌}
-use borrow.Author.Rules.{rules}
 use Rattle.blend.proofs.blend_at.Goals as goal
 
 pub returns : goal.returns

@@ -1,13 +1,9 @@
 -- `blend::blend_part` meets its contract: the entries passed hold their combined samples.
-use Prim.Native.Nat.{ℕ, ◌+◌, ◌-◌, ◌≤◌}
+use Prim.Native.Nat.{ℕ, ◌≤◌}
 use mathlib.Core.List.{List}
 use mathlib.Core.Path.{◌≡◌, refl, ◌∙◌}
 use native.Mathlib.Omega.{arith}
 use lib.ListN.{length, length-set}
-use borrow.Author.Rules.{rules}
-use Rattle.marks.specs.Puts.{held_pixel}
-use Rattle.sums.specs.Sides.{paired}
-use Rattle.planes.specs.Parts.{Filled}
 use Rattle.planes.proofs.Fills.{filled_none, filled_next, filled_all}
 use Rattle.blend.specs.Blend.{Reaches, combined_part}
 use Rattle.blend.proofs.blend_part.Goals as goal

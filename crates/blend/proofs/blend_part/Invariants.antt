@@ -1,14 +1,9 @@
-use Prim.Native.Nat.{ℕ, ◌+◌, ◌-◌, ◌≤◌}
-use mathlib.Core.List.{List}
-use mathlib.Core.Path.{◌≡◌, refl, ◌∙◌}
-use native.Mathlib.Omega.{arith}
-use lib.ListN.{length, length-set}
-use borrow.Author.Rules.{rules}
+use Prim.Native.Nat.{◌+◌, ◌-◌, ◌≤◌}
+use mathlib.Core.Path.{◌≡◌}
+use lib.ListN.{length}
 use Rattle.marks.specs.Puts.{held_pixel}
 use Rattle.sums.specs.Sides.{paired}
 use Rattle.planes.specs.Parts.{Filled}
-use Rattle.planes.proofs.Fills.{filled_none, filled_next, filled_all}
-use Rattle.blend.specs.Blend.{Reaches, combined_part}
 use Rattle.blend.proofs.blend_part.Given as goal
 
 abbrev pub invariant-loop-i : goal.invariant-loop-i

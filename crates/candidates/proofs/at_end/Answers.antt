@@ -2,7 +2,6 @@ use Prim.Native.Nat.{◌+◌, ◌-◌}
 use native.Mathlib.Omega.{arith}
 use borrow.Author.Tests.{eq-eqb, ne_eqb, eqb-true}
 use Rattle.model.proofs.Choice.{same_test}
-use borrow.Author.Rules.{rules}
 use Rattle.candidates.proofs.at_end.Goals as goal
 
 pub returns-then-i-lt1 : goal.returns-then-i-lt1

@@ -1,6 +1,5 @@
 use borrow.Author.Tests.{eq-eqb, ne_eqb}
 use Rattle.candidates.proofs.Lines.{ends_shared}
-use borrow.Author.Rules.{rules}
 use Rattle.candidates.proofs.both_at_end.Goals as goal
 
 pub returns-then-i-j : goal.returns-then-i-j

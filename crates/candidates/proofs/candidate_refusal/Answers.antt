@@ -2,9 +2,8 @@ use Prim.Native.Nat.{ℕ, ◌*◌, ◌≤◌}
 use native.Mathlib.Omega.{arith}
 use native.Mathlib.Nat.{mul-le-mul}
 use mathlib.Core.Path.{sym, ◌∙◌}
-use borrow.Author.Tests.{not-true, not-false, eq-eqb, ne_eqb}
+use borrow.Author.Tests.{eq-eqb, ne_eqb}
 use Rattle.model.specs.Refusals.{candidate_then}
-use borrow.Author.Rules.{rules}
 use Rattle.candidates.proofs.candidate_refusal.Goals as goal
 
 area-fits : (w h : ℕ) → w ≤ 4294967295 → h ≤ 4294967295 → w * h ≤ 18446744065119617025

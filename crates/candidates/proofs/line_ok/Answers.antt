@@ -1,9 +1,7 @@
 use mathlib.Core.Path.{ap, sym, ◌∙◌}
 use mathlib.Core.Bool.{not}
-use borrow.Author.Tests.{not-true, not-false}
 use Rattle.model.specs.Candidates.{line_ok}
 use Rattle.model.proofs.Candidates.{border_inside}
-use borrow.Author.Rules.{rules}
 use Rattle.candidates.proofs.line_ok.Goals as goal
 
 pub returns-then-not-on_border : goal.returns-then-not-on_border

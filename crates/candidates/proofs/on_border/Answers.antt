@@ -1,7 +1,6 @@
 use mathlib.Core.Path.{sym, ◌∙◌}
 use borrow.Author.Tests.{lt-ltb, le-ltb}
 use Rattle.model.specs.Candidates.{on_border}
-use borrow.Author.Rules.{rules}
 use Rattle.candidates.proofs.on_border.Goals as goal
 
 pub returns-then-block-p : goal.returns-then-block-p

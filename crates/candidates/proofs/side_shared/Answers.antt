@@ -1,6 +1,5 @@
 use mathlib.Core.Path.{sym, ◌∙◌}
 use Rattle.model.specs.Candidates.{side_shared}
-use borrow.Author.Rules.{rules}
 use Rattle.candidates.proofs.side_shared.Goals as goal
 
 pub returns-then-both_at_end : goal.returns-then-both_at_end

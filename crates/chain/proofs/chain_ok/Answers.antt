@@ -1,9 +1,6 @@
 -- `chain::chain_ok` meets its contract: from the index reached the chain is sound exactly where it is from the newest.
-use Prim.Native.Nat.{◌<◌}
-use mathlib.Core.Path.{◌≡◌, refl, sym, ◌∙◌}
+use mathlib.Core.Path.{refl, sym, ◌∙◌}
 use native.Mathlib.Omega.{arith}
-use borrow.Author.Tests.{not-true, not-false}
-use Rattle.model.specs.Refusals.{chain_ok}
 use Rattle.model.proofs.Journals.{chain_zero}
 use Rattle.validate.specs.Numbers.{sides}
 use Rattle.chain.proofs.Chains.{chain_refused, chain_still, chain_next, record_inside}
@@ -37,11 +34,10 @@ pub loop-at-smaller : goal.loop-at-smaller
 loop-at-smaller c = c.if-at-before.false
 
 pub loop-at-preserved : goal.loop-at-preserved
-loop-at-preserved c =
-    (
-      omega (arith, c.if-at-before.false, c.loop-at.invariant.0),
-      chain_next (sides c.args.w c.args.h) c.args.journal.now c.loop-at.at c.loop-at-test.true (sym c.record_ok.ensures ∙ c.if-not-record_ok.false) c.if-at-before.false ∙ c.loop-at.invariant.1,
-    )
+loop-at-preserved c = (
+  omega (arith, c.if-at-before.false, c.loop-at.invariant.0),
+  chain_next (sides c.args.w c.args.h) c.args.journal.now c.loop-at.at c.loop-at-test.true (sym c.record_ok.ensures ∙ c.if-not-record_ok.false) c.if-at-before.false ∙ c.loop-at.invariant.1,
+)
 
 pub returns : goal.returns
 returns c =

@@ -1,7 +1,6 @@
 -- `chain::journal_ok` meets its contract: a word, and from it a chain.
 use mathlib.Core.Path.{sym, ◌∙◌}
 use native.Mathlib.Omega.{arith}
-use borrow.Author.Rules.{rules}
 use Rattle.validate.specs.Numbers.{sides}
 use Rattle.chain.proofs.Chains.{journal_empty, journal_some}
 use Rattle.chain.proofs.journal_ok.Goals as goal

@@ -2,7 +2,6 @@
 use Prim.Native.Nat.{◌+◌}
 use mathlib.Core.Path.{sym}
 use native.Mathlib.Omega.{arith}
-use borrow.Author.Rules.{rules}
 use Rattle.model.specs.Journals.{newest}
 use Rattle.model.proofs.Journals.{next_first, next_after}
 use Rattle.chain.proofs.Chains.{newest_end}

@@ -2,7 +2,6 @@
 use mathlib.Core.Path.{sym, ◌∙◌}
 use native.Mathlib.Nat.{le-add_right}
 use native.Mathlib.Omega.{arith}
-use borrow.Author.Rules.{rules}
 use Rattle.model.specs.Journals.{record_view, record_block}
 use Rattle.chain.proofs.Chains.{own_inside, product_most, record_short, record_refused, record_past, record_rest}
 use Rattle.chain.proofs.record_ok.Goals as goal

@@ -1,8 +1,6 @@
 -- `chain::saving` meets its contract: 13, 11 or none.
 use mathlib.Core.Path.{sym, ◌∙◌}
 use native.Mathlib.Omega.{arith}
-use borrow.Author.Rules.{rules}
-use borrow.Author.Tests.{not-true, not-false}
 use Rattle.model.proofs.Refusals.{room_short, room_far, room_yes}
 use Rattle.model.proofs.Journals.{journal_words, next_inside}
 use Rattle.validate.specs.Numbers.{sides}

@@ -1,7 +1,5 @@
 -- `chain::taking` meets its contract: 13, 12 or none.
 use mathlib.Core.Path.{sym, ◌∙◌}
-use borrow.Author.Rules.{rules}
-use borrow.Author.Tests.{not-true, not-false}
 use Rattle.model.proofs.Journals.{journal_words}
 use Rattle.validate.specs.Numbers.{sides}
 use Rattle.chain.proofs.Chains.{taking_journal, taking_nothing, taking_none}

@@ -3,7 +3,6 @@ use mathlib.Core.Path.{sym}
 use native.Mathlib.Omega.{arith}
 use lib.ListN.{length}
 use lib.Seq.{length-take-le}
-use borrow.Author.Rules.{rules}
 use Rattle.commit.proofs.draw_long.Goals as goal
 
 pub slice_bounds-draw_marked-end : goal.slice_bounds-draw_marked-end

@@ -1,7 +1,6 @@
 -- `commit::draw_marked` meets its contract.
 use mathlib.Core.Path.{◌∙◌}
 use lib.ListN.{length}
-use borrow.Author.Rules.{rules}
 use Rattle.model.specs.Row.{line}
 use Rattle.model.specs.Views.{seen}
 use Rattle.commit.proofs.Drawn.{part_flags, part_drawn}

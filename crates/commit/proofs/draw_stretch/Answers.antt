@@ -1,7 +1,6 @@
 -- `commit::draw_stretch` meets its contract.
 use mathlib.Core.Path.{sym}
 use lib.Seq.{length-take-le}
-use borrow.Author.Rules.{rules}
 use Rattle.commit.proofs.draw_stretch.Goals as goal
 
 pub slice_bounds-draw_marked-end : goal.slice_bounds-draw_marked-end

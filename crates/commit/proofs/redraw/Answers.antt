@@ -38,11 +38,10 @@ returns-then-end-start c =
     redrawn_none c.args.right (line c.args.tear c.args.table.now (seen c.args.right c.args.texture.now) (seen c.args.right c.args.depths.now)) c.args.columns c.args.low c.args.edge c.first_at-start.result c.first_at-end.result c.first_at-start.ensures c.first_at-end.ensures w c.args.y c.args.samples.now c.args.fronts.now c.args.marks.now c.if-end-start.true
 
 pub part_start-at-requires : goal.part_start-at-requires
-part_start-at-requires c =
-    (
-      omega (arith, c.if-end-start.false),
-      rw (c.first_at-end.ensures, ← length_seen c.args.right c.args.depths.now) (first_within c.args.table.now (seen c.args.right c.args.depths.now) (c.args.columns - 1) c.args.edge.limit c.requires.columns_nonzero.1.1.under),
-    )
+part_start-at-requires c = (
+  omega (arith, c.if-end-start.false),
+  rw (c.first_at-end.ensures, ← length_seen c.args.right c.args.depths.now) (first_within c.args.table.now (seen c.args.right c.args.depths.now) (c.args.columns - 1) c.args.edge.limit c.requires.columns_nonzero.1.1.under),
+)
 
 pub draw_stretch-requires : goal.draw_stretch-requires
 draw_stretch-requires c =

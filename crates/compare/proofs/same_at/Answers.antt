@@ -2,7 +2,6 @@
 use mathlib.Core.Path.{ap}
 use mathlib.Core.Bool.{not}
 use native.Mathlib.Omega.{arith}
-use borrow.Author.Rules.{rules}
 use Rattle.compare.proofs.Ways.{left_differs, right_differs, views_agree}
 use Rattle.compare.proofs.same_at.Goals as goal
 

@@ -1,5 +1,4 @@
 -- `compare::same_mark` meets its contract.
-use borrow.Author.Rules.{rules}
 use borrow.Author.Tests.{eq-eqb, ne_eqb, lt-ltb, le-ltb}
 use Rattle.model.specs.Reports.{same_mark}
 use Rattle.compare.proofs.same_mark.Goals as goal

@@ -4,10 +4,9 @@ use Prim.Native.Nat.{◌+◌, ◌*◌}
 use lib.IntN.{pos}
 use lib.ListN.{get_or}
 use mir.Syntax.{w16}
-use borrow.Author.Tests.{eq-eqb, ne_eqb, not-true, not-false}
+use borrow.Author.Tests.{eq-eqb, ne_eqb}
 use Rattle.compare.specs.Agree.{same_value, agrees}
 use Rattle.compare.proofs.Values.{read_same}
-use borrow.Author.Rules.{rules}
 use Rattle.compare.proofs.same_view.Goals as goal
 use Rattle.compare.proofs.same_view.Goals.{After-same_limit}
 

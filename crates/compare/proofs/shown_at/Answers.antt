@@ -1,6 +1,5 @@
 -- `compare::shown_at` meets its contract.
 use mathlib.Core.Path.{◌∙◌}
-use borrow.Author.Rules.{rules}
 use Rattle.sums.specs.Sides.{paired}
 use Rattle.compare.proofs.shown_at.Goals as goal
 

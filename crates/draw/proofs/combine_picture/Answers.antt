@@ -1,12 +1,8 @@
 -- `draw::combine_picture` meets its contract: the rows passed are combined, and their errors summed.
-use Prim.Native.Nat.{◌-◌, ◌≤◌}
 use mathlib.Core.Path.{◌≡◌, refl, ◌∙◌}
 use native.Mathlib.Omega.{arith}
 use native.Mathlib.Nat.{mul_comm}
-use borrow.Author.Rules.{rules}
-use lib.ListN.{length}
 use Rattle.model.proofs.Lists.{rows_apart}
-use Rattle.draw.specs.Combination.{held_rows, PictureCombined}
 use Rattle.draw.proofs.Pictures.{side_in, picture_none, picture_next, picture_most}
 use Rattle.draw.proofs.combine_picture.Goals as goal
 

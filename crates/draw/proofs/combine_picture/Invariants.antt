@@ -1,12 +1,7 @@
 use Prim.Native.Nat.{◌-◌, ◌≤◌}
-use mathlib.Core.Path.{◌≡◌, refl, ◌∙◌}
-use native.Mathlib.Omega.{arith}
-use native.Mathlib.Nat.{mul_comm}
-use borrow.Author.Rules.{rules}
+use mathlib.Core.Path.{◌≡◌}
 use lib.ListN.{length}
-use Rattle.model.proofs.Lists.{rows_apart}
 use Rattle.draw.specs.Combination.{held_rows, PictureCombined}
-use Rattle.draw.proofs.Pictures.{side_in, picture_none, picture_next, picture_most}
 use Rattle.draw.proofs.combine_picture.Given as goal
 
 abbrev pub invariant-loop-y : goal.invariant-loop-y

@@ -31,13 +31,16 @@ last_fits s = omega (arith, s.requires.planes_in.marks_in, s.well_formed)
 
 pub draw_row-requires : goal.draw_row-requires
 draw_row-requires c =
-    let l = part_length c.args.depths.now (c.args.y * c.args.w) c.args.w c.requires.planes_in.depths_in in record { ready = parts_ready c.args.tear c.args.table.now c.args.w c.args.y c.args.texture.now c.args.depths.now _ c.requires.table.0 c.requires.table.1.0 c.requires.table.1.1 c.requires.planes_in; samples_len = (
+    let l = part_length c.args.depths.now (c.args.y * c.args.w) c.args.w c.requires.planes_in.depths_in in record {
+      ready = parts_ready c.args.tear c.args.table.now c.args.w c.args.y c.args.texture.now c.args.depths.now _ c.requires.table.0 c.requires.table.1.0 c.requires.table.1.1 c.requires.planes_in;
+      samples_len = (
         part_length c.args.samples.now (c.args.y * c.args.w) c.args.w c.requires.planes_in.samples_in ∙ sym l,
         (
           part_length c.args.fronts.now (c.args.y * c.args.w) c.args.w c.requires.planes_in.fronts_in ∙ sym l,
           (c.requires.flags_len ∙ sym l, part_length c.args.limits.now (c.args.y * c.args.w) c.args.w c.requires.planes_in.limits_in ∙ sym l),
         ),
-      ) }
+      );
+    }
 
 pub pack-requires : goal.pack-requires
 pack-requires c =

@@ -1,12 +1,8 @@
 -- `draw::draw_view` meets its contract: the rows passed are drawn.
-use Prim.Native.Nat.{◌-◌, ◌≤◌}
 use mathlib.Core.Path.{◌≡◌, refl, sym, ◌∙◌}
 use native.Mathlib.Omega.{arith}
-use lib.ListN.{length}
 use lib.Seq.{length-take-le, length_front}
-use Rattle.model.specs.Planes.{view}
-use Rattle.draw.specs.Drawn.{ViewDrawn}
-use Rattle.draw.proofs.Planes.{Kept, kept_all, kept_in, view_none, view_next}
+use Rattle.draw.proofs.Planes.{kept_all, kept_in, view_none, view_next}
 use Rattle.draw.proofs.draw_view.Goals as goal
 
 pub loop-y-init : goal.loop-y-init
@@ -29,22 +25,21 @@ pub loop-y-smaller : goal.loop-y-smaller
 loop-y-smaller c = omega arith
 
 pub loop-y-preserved : goal.loop-y-preserved
-loop-y-preserved c =
+loop-y-preserved c = (
+  omega (arith, c.loop-y-test.true),
+  (
+    length_front c.loop-y.flags c.draw_plane_row.new.flags c.args.w c.draw_plane_row.auto.flags ∙ c.loop-y.invariant.1.0,
     (
-      omega (arith, c.loop-y-test.true),
-      (
-        length_front c.loop-y.flags c.draw_plane_row.new.flags c.args.w c.draw_plane_row.auto.flags ∙ c.loop-y.invariant.1.0,
-        (
-          record {
-            samples = c.draw_plane_row.auto.samples ∙ c.loop-y.invariant.1.1.0.samples;
-            fronts = c.draw_plane_row.auto.fronts ∙ c.loop-y.invariant.1.1.0.fronts;
-            limits = c.draw_plane_row.auto.limits ∙ c.loop-y.invariant.1.1.0.limits;
-            marks = c.draw_plane_row.auto.marks ∙ c.loop-y.invariant.1.1.0.marks;
-          },
-          view_next c.loop-y.invariant.1.1.1 c.draw_plane_row.ensures,
-        ),
-      ),
-    )
+      record {
+        samples = c.draw_plane_row.auto.samples ∙ c.loop-y.invariant.1.1.0.samples;
+        fronts = c.draw_plane_row.auto.fronts ∙ c.loop-y.invariant.1.1.0.fronts;
+        limits = c.draw_plane_row.auto.limits ∙ c.loop-y.invariant.1.1.0.limits;
+        marks = c.draw_plane_row.auto.marks ∙ c.loop-y.invariant.1.1.0.marks;
+      },
+      view_next c.loop-y.invariant.1.1.1 c.draw_plane_row.ensures,
+    ),
+  ),
+)
 
 pub shape_of-samples : goal.shape_of-samples
 shape_of-samples c = c.loop-y.invariant.1.1.0.samples

@@ -1,11 +1,9 @@
 use Prim.Native.Nat.{◌-◌, ◌≤◌}
-use mathlib.Core.Path.{◌≡◌, refl, sym, ◌∙◌}
-use native.Mathlib.Omega.{arith}
+use mathlib.Core.Path.{◌≡◌}
 use lib.ListN.{length}
-use lib.Seq.{length-take-le, length_front}
 use Rattle.model.specs.Planes.{view}
 use Rattle.draw.specs.Drawn.{ViewDrawn}
-use Rattle.draw.proofs.Planes.{Kept, kept_all, kept_in, view_none, view_next}
+use Rattle.draw.proofs.Planes.{Kept}
 use Rattle.draw.proofs.draw_view.Given as goal
 
 abbrev pub invariant-loop-y : goal.invariant-loop-y

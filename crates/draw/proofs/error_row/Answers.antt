@@ -1,6 +1,5 @@
 -- `draw::error_row` meets its contract.
 use Rattle.draw.proofs.Pictures.{row_error_lem}
-use borrow.Author.Rules.{rules}
 use Rattle.draw.proofs.error_row.Goals as goal
 
 pub returns : goal.returns

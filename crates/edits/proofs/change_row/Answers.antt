@@ -7,7 +7,6 @@ use native.Mathlib.Omega.{arith}
 use lib.ListN.{length, take, drop}
 use mir.Val.{Fits}
 use mir.Syntax.{w64}
-use borrow.Author.Rules.{rules}
 use Rattle.planes.proofs.Splices.{part_row, part_length, put_back, length-splice}
 use Rattle.edits.proofs.Lent.{rewritten_wide, lent_again, changed}
 use Rattle.edits.proofs.change_row.Goals as goal

@@ -1,7 +1,6 @@
 -- `edits::edit_row` meets its contract.
 use mathlib.Core.Path.{ap, ◌∙◌}
 use lib.ListN.{length}
-use borrow.Author.Rules.{rules}
 use Rattle.planes.specs.Parts.{splice}
 use Rattle.planes.proofs.Splices.{put_back}
 use Rattle.places.proofs.Lows.{low_is}

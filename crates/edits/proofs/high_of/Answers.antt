@@ -1,6 +1,5 @@
 -- `edits::high_of` meets its contract.
 use mathlib.Core.Path.{ap, ◌∙◌}
-use borrow.Author.Rules.{rules}
 use Rattle.model.specs.Views.{seen}
 use Rattle.limits.specs.Limits.{limit_under}
 use Rattle.edits.proofs.high_of.Goals as goal

@@ -2,7 +2,6 @@
 use Prim.Native.Nat.{ℕ, ◌-◌}
 use mathlib.Core.Path.{subst}
 use native.Mathlib.Omega.{arith}
-use borrow.Author.Rules.{rules}
 use Rattle.model.specs.Views.{seen}
 use Rattle.model.proofs.Views.{length_seen}
 use Rattle.pixel.specs.Pairs.{next_place}
@@ -16,10 +15,13 @@ edge_of-edge-requires c = (rw c.requires.limits_len.0 c.requires.limits_len.1.1,
 
 pub write_limits-requires : goal.write_limits-requires
 write_limits-requires c =
-    let d = seen c.args.right c.args.depths.now in record { table_value = (
+    let d = seen c.args.right c.args.depths.now in record {
+      table_value = (
         c.requires.table_value.0,
         omega (arith, c.high_of-high.ensures, limit_least (seen c.args.right c.args.limits.now) c.args.columns (next_place c.args.table.now d (c.args.columns - 1)), next_most c.args.table.now d (c.args.columns - 1), length_seen c.args.right c.args.depths.now, c.requires.table_value.1),
-      ); columns_bound = (omega (arith, c.requires.table_value.1, c.requires.limits_len.1.1), omega (arith, c.requires.limits_len.0, c.requires.limits_len.1.1)) }
+      );
+      columns_bound = (omega (arith, c.requires.table_value.1, c.requires.limits_len.1.1), omega (arith, c.requires.limits_len.0, c.requires.limits_len.1.1));
+    }
 
 pub returns : goal.returns
 returns c =

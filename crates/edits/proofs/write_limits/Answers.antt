@@ -1,15 +1,13 @@
 -- `edits::write_limits` meets its contract: from the right, the limits of the columns passed are written.
-use mathlib.Core.Path.{◌≡◌, refl, ◌∙◌}
+use mathlib.Core.Path.{refl, ◌∙◌}
 use native.Mathlib.Omega.{arith}
 use mir.Syntax.{w16}
-use lib.ListN.{length}
-use borrow.Author.Rules.{rules}
 use Rattle.model.specs.Row.{place}
 use Rattle.model.specs.Views.{seen}
 use Rattle.model.proofs.Views.{length_seen}
 use Rattle.signed.proofs.Signed.{read_back}
 use Rattle.limits.proofs.Below.{below_most}
-use Rattle.edits.proofs.Limits.{Written, written_none, written_back, written_settled, written_all}
+use Rattle.edits.proofs.Limits.{written_none, written_back, written_settled, written_all}
 use Rattle.edits.proofs.write_limits.Goals as goal
 
 pub loop-c-init : goal.loop-c-init
@@ -46,13 +44,12 @@ pub loop-c-smaller : goal.loop-c-smaller
 loop-c-smaller c = omega (arith, c.loop-c-test.true)
 
 pub loop-c-preserved : goal.loop-c-preserved
-loop-c-preserved c =
-    (
-      written_back c.loop-c.invariant.0 _ _ _ _ c.loop-c-test.true
-          (rw (length_seen c.args.right c.loop-c.limits, c.loop-c.invariant.1) (omega (arith, c.loop-c.invariant.0.column, c.requires.columns_bound.1)))
-          c.place_of-here.ensures c.least-top.ensures (read_back w16 c.limit_of.result c.limit_of.type_inv ∙ c.limit_of.ensures) c.put_limit.ensures,
-      c.put_limit.auto.row ∙ c.loop-c.invariant.1,
-    )
+loop-c-preserved c = (
+  written_back c.loop-c.invariant.0 _ _ _ _ c.loop-c-test.true
+      (rw (length_seen c.args.right c.loop-c.limits, c.loop-c.invariant.1) (omega (arith, c.loop-c.invariant.0.column, c.requires.columns_bound.1)))
+      c.place_of-here.ensures c.least-top.ensures (read_back w16 c.limit_of.result c.limit_of.type_inv ∙ c.limit_of.ensures) c.put_limit.ensures,
+  c.put_limit.auto.row ∙ c.loop-c.invariant.1,
+)
 
 pub shape_of-limits : goal.shape_of-limits
 shape_of-limits c = c.loop-c.invariant.1

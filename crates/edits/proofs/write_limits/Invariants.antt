@@ -1,14 +1,7 @@
-use mathlib.Core.Path.{◌≡◌, refl, ◌∙◌}
-use native.Mathlib.Omega.{arith}
-use mir.Syntax.{w16}
+use mathlib.Core.Path.{◌≡◌}
 use lib.ListN.{length}
-use borrow.Author.Rules.{rules}
-use Rattle.model.specs.Row.{place}
 use Rattle.model.specs.Views.{seen}
-use Rattle.model.proofs.Views.{length_seen}
-use Rattle.signed.proofs.Signed.{read_back}
-use Rattle.limits.proofs.Below.{below_most}
-use Rattle.edits.proofs.Limits.{Written, written_none, written_back, written_settled, written_all}
+use Rattle.edits.proofs.Limits.{Written}
 use Rattle.edits.proofs.write_limits.Given as goal
 
 abbrev pub invariant-loop-c : goal.invariant-loop-c

@@ -1,9 +1,7 @@
 -- `fill::fill_flat` meets its contract: the entries passed hold the value.
-use Prim.Native.Nat.{◌-◌, ◌≤◌}
 use mathlib.Core.Path.{◌≡◌, refl, ◌∙◌}
 use native.Mathlib.Omega.{arith}
 use lib.ListN.{length, length-set}
-use Rattle.planes.specs.Parts.{Filled}
 use Rattle.planes.proofs.Fills.{filled_none, filled_next, filled_all}
 use Rattle.fill.proofs.fill_flat.Goals as goal
 

@@ -1,7 +1,6 @@
 -- `fill::fill_line` meets its contract: the walk begins with the cross product's parts in column 0.
 use native.Mathlib.Omega.{arith}
-use borrow.Author.Rules.{rules}
-use Rattle.fill.specs.Rows.{above, below, Near}
+use Rattle.fill.specs.Rows.{above, below}
 use Rattle.fill.proofs.Lines.{product_most}
 use Rattle.fill.proofs.fill_line.Goals as goal
 
@@ -30,14 +29,13 @@ overflow_add-under c =
     omega (arith, product_most c.args.start.column c.args.i c.requires.0.column c.requires.1.1.0, product_most c.args.end.column c.args.start.row c.requires.1.0.column c.requires.0.row)
 
 pub walk-requires : goal.walk-requires
-walk-requires c =
-    (
-      omega (arith, product_most c.args.end.column c.args.i c.requires.1.0.column c.requires.1.1.0, product_most c.args.end.row c.args.start.column c.requires.1.0.row c.requires.0.column),
-      (
-        omega (arith, product_most c.args.start.column c.args.i c.requires.0.column c.requires.1.1.0, product_most c.args.end.column c.args.start.row c.requires.1.0.column c.requires.0.row),
-        (c.requires.0.row, (c.requires.1.0.row, c.requires.1.1.1)),
-      ),
-    )
+walk-requires c = (
+  omega (arith, product_most c.args.end.column c.args.i c.requires.1.0.column c.requires.1.1.0, product_most c.args.end.row c.args.start.column c.requires.1.0.row c.requires.0.column),
+  (
+    omega (arith, product_most c.args.start.column c.args.i c.requires.0.column c.requires.1.1.0, product_most c.args.end.column c.args.start.row c.requires.1.0.column c.requires.0.row),
+    (c.requires.0.row, (c.requires.1.0.row, c.requires.1.1.1)),
+  ),
+)
 
 pub returns : goal.returns
 unfolding above below

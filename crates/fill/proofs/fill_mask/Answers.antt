@@ -1,13 +1,7 @@
 -- `fill::fill_mask` meets its contract: the entries passed hold the value of their bit.
-use Prim.Native.Nat.{◌+◌, ◌-◌, ◌≤◌}
-use mathlib.Core.Bool.{cond}
-use mathlib.Core.Path.{◌≡◌, refl, ap, ◌∙◌}
+use mathlib.Core.Path.{◌≡◌, refl, ◌∙◌}
 use native.Mathlib.Omega.{arith}
-use lib.Dec.{eqb}
 use lib.ListN.{length, length-set}
-use borrow.Author.Rules.{rules}
-use Rattle.model.specs.Marks.{mark_at}
-use Rattle.planes.specs.Parts.{Filled}
 use Rattle.planes.proofs.Fills.{filled_none, filled_next, filled_all}
 use Rattle.fill.proofs.fill_mask.Goals as goal
 
@@ -30,14 +24,13 @@ pub loop-k-smaller : goal.loop-k-smaller
 loop-k-smaller c = omega arith
 
 pub loop-k-preserved : goal.loop-k-preserved
-loop-k-preserved c =
-    (
-      omega arith,
-      (
-        (simp length-set) ∙ c.loop-k.invariant.1.0,
-        filled_next _ c.loop-k.invariant.1.1 (omega arith) (omega arith) (c.value_of.ensures ∙ rw c.mark_at-bit.ensures),
-      ),
-    )
+loop-k-preserved c = (
+  omega arith,
+  (
+    (simp length-set) ∙ c.loop-k.invariant.1.0,
+    filled_next _ c.loop-k.invariant.1.1 (omega arith) (omega arith) (c.value_of.ensures ∙ rw c.mark_at-bit.ensures),
+  ),
+)
 
 pub shape_of-room : goal.shape_of-room
 shape_of-room c = c.loop-k.invariant.1.0

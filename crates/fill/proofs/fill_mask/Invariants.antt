@@ -1,13 +1,10 @@
 use Prim.Native.Nat.{◌+◌, ◌-◌, ◌≤◌}
 use mathlib.Core.Bool.{cond}
-use mathlib.Core.Path.{◌≡◌, refl, ap, ◌∙◌}
-use native.Mathlib.Omega.{arith}
+use mathlib.Core.Path.{◌≡◌}
 use lib.Dec.{eqb}
-use lib.ListN.{length, length-set}
-use borrow.Author.Rules.{rules}
+use lib.ListN.{length}
 use Rattle.model.specs.Marks.{mark_at}
 use Rattle.planes.specs.Parts.{Filled}
-use Rattle.planes.proofs.Fills.{filled_none, filled_next, filled_all}
 use Rattle.fill.proofs.fill_mask.Given as goal
 
 abbrev pub invariant-loop-k : goal.invariant-loop-k

@@ -1,11 +1,9 @@
 -- `fill::fill_regions` meets its contract: a line's row by the walk, a mask's by its bits.
 use Prim.Native.Nat.{◌+◌, ◌*◌, ◌≤◌}
-use mathlib.Core.Path.{◌≡◌, ◌∙◌}
+use mathlib.Core.Path.{◌∙◌}
 use native.Mathlib.Omega.{arith}
 use native.Mathlib.Nat.{mul-le-mul}
 use lib.ListN.{length}
-use borrow.Author.Rules.{rules}
-use Rattle.fill.specs.Rows.{Near, RowThere}
 use Rattle.fill.proofs.Rows.{line_row, mask_row}
 use Rattle.fill.proofs.fill_regions.Goals as goal
 

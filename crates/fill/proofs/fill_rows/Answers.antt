@@ -1,15 +1,13 @@
 -- `fill::fill_rows` meets its contract: the rows passed are made, and each is made in its own part of the room.
-use Prim.Native.Nat.{ℕ, ◌+◌, ◌*◌, ◌-◌, ◌<◌, ◌≤◌}
+use Prim.Native.Nat.{ℕ, ◌+◌, ◌*◌, ◌≤◌}
 use mathlib.Core.Path.{◌≡◌, refl, sym, ap, ◌∙◌, subst}
 use mathlib.Core.List.{List}
 use native.Mathlib.Omega.{arith}
 use native.Mathlib.Nat.{mul-le-mul}
 use lib.ListN.{length}
-use borrow.Author.Rules.{rules}
 use Rattle.model.specs.declared.Split.{Split}
 use Rattle.model.specs.declared.Candidate.{Candidate}
 use Rattle.model.specs.declared.Candidate.TheVariants.{Regions}
-use Rattle.model.specs.Lists.{row_of}
 use Rattle.model.proofs.Lists.{rows_apart}
 use Rattle.planes.proofs.Splices.{part_length}
 use Rattle.fill.specs.Rows.{RowThere, room_of, filled_row}

@@ -1,18 +1,9 @@
-use Prim.Native.Nat.{ℕ, ◌+◌, ◌*◌, ◌-◌, ◌<◌, ◌≤◌}
-use mathlib.Core.Path.{◌≡◌, refl, sym, ap, ◌∙◌}
-use mathlib.Core.List.{List}
-use native.Mathlib.Omega.{arith}
-use native.Mathlib.Nat.{mul-le-mul}
+use Prim.Native.Nat.{ℕ, ◌+◌, ◌-◌, ◌<◌, ◌≤◌}
+use mathlib.Core.Path.{◌≡◌}
 use lib.ListN.{length}
-use borrow.Author.Rules.{rules}
-use Rattle.model.specs.declared.Split.{Split}
-use Rattle.model.specs.declared.Candidate.{Candidate}
 use Rattle.model.specs.declared.Candidate.TheVariants.{Regions}
 use Rattle.model.specs.Lists.{row_of}
-use Rattle.model.proofs.Lists.{rows_apart}
-use Rattle.planes.proofs.Splices.{part_length}
-use Rattle.fill.specs.Rows.{RowThere, room_of, filled_row}
-use Rattle.fill.proofs.Rows.{row_wide, rows_more, made_full, made_flat, made_regions}
+use Rattle.fill.specs.Rows.{filled_row}
 use Rattle.fill.proofs.fill_rows.Given as goal
 
 abbrev pub invariant-loop-k : goal.invariant-loop-k

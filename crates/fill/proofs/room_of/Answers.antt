@@ -1,5 +1,3 @@
-use mathlib.Core.Path.{sym, ◌∙◌}
-use borrow.Author.Rules.{rules}
 use Rattle.fill.specs.Rows.{room_of}
 use Rattle.fill.proofs.room_of.Goals as goal
 

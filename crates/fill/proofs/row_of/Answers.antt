@@ -1,10 +1,9 @@
 -- `fill::row_of` meets its contract: a full block's row from the bytes, any other from the room.
-use Prim.Native.Nat.{◌+◌, ◌*◌, ◌-◌, ◌≤◌}
+use Prim.Native.Nat.{◌+◌, ◌*◌, ◌-◌}
 use mathlib.Core.Path.{◌≡◌, sym, ◌∙◌}
 use mathlib.Core.Bool.{true}
 use native.Mathlib.Omega.{arith}
 use native.Mathlib.Nat.{mul-le-mul}
-use borrow.Author.Rules.{rules}
 use Rattle.model.specs.Lists.{row_of}
 use Rattle.fill.specs.Rows.{is_lent, row_in}
 use Rattle.fill.proofs.Rows.{there_lent}

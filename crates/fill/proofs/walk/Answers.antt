@@ -1,13 +1,8 @@
 -- `fill::walk` meets its contract: the entries passed hold the value of their column.
-use Prim.Native.Nat.{◌+◌, ◌-◌, ◌*◌, ◌≤◌}
-use mathlib.Core.Bool.{cond}
-use mathlib.Core.Path.{◌≡◌, refl, ap, sym, ◌∙◌}
+use mathlib.Core.Path.{◌≡◌, refl, ◌∙◌}
 use native.Mathlib.Omega.{arith}
 use native.Mathlib.Nat.{mul-suc, mul-zero}
-use lib.Dec.{ltb}
 use lib.ListN.{length, length-set}
-use borrow.Author.Rules.{rules}
-use Rattle.planes.specs.Parts.{Filled}
 use Rattle.planes.proofs.Fills.{filled_none, filled_next, filled_all}
 use Rattle.fill.proofs.Lines.{product_most}
 use Rattle.fill.proofs.walk.Goals as goal
@@ -34,20 +29,19 @@ pub loop-k-smaller : goal.loop-k-smaller
 loop-k-smaller c = omega arith
 
 pub loop-k-preserved : goal.loop-k-preserved
-loop-k-preserved c =
+loop-k-preserved c = (
+  omega arith,
+  (
+    (simp length-set) ∙ c.loop-k.invariant.1.0,
     (
-      omega arith,
+      omega (arith, mul-suc c.args.up c.loop-k.k),
       (
-        (simp length-set) ∙ c.loop-k.invariant.1.0,
-        (
-          omega (arith, mul-suc c.args.up c.loop-k.k),
-          (
-            omega (arith, mul-suc c.args.down c.loop-k.k),
-            filled_next _ c.loop-k.invariant.1.1.1.1 (omega arith) (omega arith) (c.value_of.ensures ∙ rw (c.loop-k.invariant.1.1.0, c.loop-k.invariant.1.1.1.0)),
-          ),
-        ),
+        omega (arith, mul-suc c.args.down c.loop-k.k),
+        filled_next _ c.loop-k.invariant.1.1.1.1 (omega arith) (omega arith) (c.value_of.ensures ∙ rw (c.loop-k.invariant.1.1.0, c.loop-k.invariant.1.1.1.0)),
       ),
-    )
+    ),
+  ),
+)
 
 pub shape_of-room : goal.shape_of-room
 shape_of-room c = c.loop-k.invariant.1.0

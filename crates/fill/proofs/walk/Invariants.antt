@@ -1,14 +1,9 @@
 use Prim.Native.Nat.{◌+◌, ◌-◌, ◌*◌, ◌≤◌}
 use mathlib.Core.Bool.{cond}
-use mathlib.Core.Path.{◌≡◌, refl, ap, sym, ◌∙◌}
-use native.Mathlib.Omega.{arith}
-use native.Mathlib.Nat.{mul-suc, mul-zero}
+use mathlib.Core.Path.{◌≡◌}
 use lib.Dec.{ltb}
-use lib.ListN.{length, length-set}
-use borrow.Author.Rules.{rules}
+use lib.ListN.{length}
 use Rattle.planes.specs.Parts.{Filled}
-use Rattle.planes.proofs.Fills.{filled_none, filled_next, filled_all}
-use Rattle.fill.proofs.Lines.{product_most}
 use Rattle.fill.proofs.walk.Given as goal
 
 abbrev pub invariant-loop-k : goal.invariant-loop-k

@@ -2,7 +2,6 @@ use mathlib.Core.Path.{◌≡◌, ◌∙◌}
 use native.Mathlib.Omega.{arith}
 use Rattle.model.specs.Row.{sample_in, mixed}
 use Rattle.filter.proofs.Near.{near_part, near_mixed}
-use borrow.Author.Rules.{rules}
 use Rattle.filter.proofs.between.Goals as goal
 
 pub returns-then-k-eq0 : goal.returns-then-k-eq0

@@ -2,7 +2,6 @@ use mathlib.Core.Path.{◌≡◌, ◌∙◌}
 use native.Mathlib.Omega.{arith}
 use Rattle.model.specs.Row.{sample_in, mixed}
 use Rattle.filter.proofs.Sums.{eight_first, eight_half, eight_last}
-use borrow.Author.Rules.{rules}
 use Rattle.filter.proofs.inner.Goals as goal
 
 pub returns-then-k-eq1 : goal.returns-then-k-eq1

@@ -1,6 +1,5 @@
 use mathlib.Core.Path.{◌∙◌}
 use Rattle.filter.proofs.Near.{near_list, near_mixed}
-use borrow.Author.Rules.{rules}
 use Rattle.filter.proofs.outer.Goals as goal
 
 pub returns : goal.returns

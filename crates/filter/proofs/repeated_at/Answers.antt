@@ -2,7 +2,6 @@ use Prim.Native.Nat.{ℕ}
 use mathlib.Core.Path.{ap, ◌∙◌}
 use lib.ListN.{get_or}
 use Rattle.model.specs.Row.{read, sample_in, repeated}
-use borrow.Author.Rules.{rules}
 use Rattle.filter.proofs.repeated_at.Goals as goal
 
 pub returns : goal.returns

@@ -4,7 +4,6 @@ use borrow.Author.Tests.{eq-eqb, ne_eqb}
 use Rattle.model.specs.Refusals.{holes_number}
 use Rattle.validate.specs.Numbers.{sides}
 use Rattle.holes.proofs.Ways.{lent, refused, counted}
-use borrow.Author.Rules.{rules}
 use Rattle.holes.proofs.holes.Goals as goal
 use Rattle.holes.proofs.holes.Goals.{Else-number-ne0}
 

@@ -1,17 +1,15 @@
 -- what the tests of the sides have shown where they passed
 use Prim.Native.Nat.{◌+◌, ◌*◌, ◌/◌, ◌≤◌}
 use mathlib.Core.Path.{◌≡◌, sym, ◌∙◌}
-use mathlib.Core.Bool.{Bool, true}
+use mathlib.Core.Bool.{true}
 use mathlib.Core.Logic.{⊎_elim}
 use native.Mathlib.Omega.{arith}
 use native.Mathlib.Nat.{mul-le-mul}
 use lib.ListN.{length}
-use lib.Dec.{eqb}
-use borrow.Author.Tests.{not-true, not-false, le-leb, lt-leb, eq-eqb, ne_eqb}
+use borrow.Author.Tests.{le-leb, lt-leb, eq-eqb, ne_eqb}
 use Rattle.model.specs.Marks.{mark_bytes}
 use Rattle.model.specs.Refusals.{side_ok, size_ok, holes_number}
 use Rattle.model.proofs.Refusals.{side_facts}
-use borrow.Author.Rules.{rules}
 use Rattle.holes.proofs.refusal.Goals as goal
 use Rattle.holes.proofs.refusal.Goals.{Else-not-side_ok, Else-not-side_ok-2}
 

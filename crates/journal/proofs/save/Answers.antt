@@ -1,6 +1,5 @@
 -- `journal::save` meets its contract: the record in its place, and then word 0.
 use native.Mathlib.Omega.{arith}
-use borrow.Author.Rules.{rules}
 use Rattle.model.specs.Blocks.{block_depths}
 use Rattle.model.proofs.Written.{length-old}
 use Rattle.model.proofs.Refusals.{room_end, room_index}

@@ -1,11 +1,11 @@
 -- `journal::save_rows` meets its contract: the words of the rows passed hold the block's depths.
-use Prim.Native.Nat.{◌+◌, ◌*◌, ◌-◌, ◌≤◌}
+use Prim.Native.Nat.{◌+◌, ◌*◌, ◌≤◌}
 use mathlib.Core.Path.{◌≡◌, refl, sym, ap, ◌∙◌}
 use native.Mathlib.Omega.{arith}
 use lib.ListN.{length}
-use Rattle.planes.specs.Parts.{Filled, block_of}
+use Rattle.planes.specs.Parts.{block_of}
 use Rattle.planes.proofs.Splices.{part_length, put_back, length-splice}
-use Rattle.journal.proofs.Records.{standing, rows_none, row_facts, row_saved, rows_all}
+use Rattle.journal.proofs.Records.{rows_none, row_facts, row_saved, rows_all}
 use Rattle.journal.proofs.save_rows.Goals as goal
 
 pub loop-j-init : goal.loop-j-init

@@ -1,10 +1,8 @@
-use Prim.Native.Nat.{◌+◌, ◌*◌, ◌-◌, ◌≤◌}
-use mathlib.Core.Path.{◌≡◌, refl, sym, ap, ◌∙◌}
-use native.Mathlib.Omega.{arith}
+use Prim.Native.Nat.{◌*◌, ◌-◌, ◌≤◌}
+use mathlib.Core.Path.{◌≡◌}
 use lib.ListN.{length}
 use Rattle.planes.specs.Parts.{Filled, block_of}
-use Rattle.planes.proofs.Splices.{part_length, put_back, length-splice}
-use Rattle.journal.proofs.Records.{standing, rows_none, row_facts, row_saved, rows_all}
+use Rattle.journal.proofs.Records.{standing}
 use Rattle.journal.proofs.save_rows.Given as goal
 
 abbrev pub invariant-loop-j : goal.invariant-loop-j

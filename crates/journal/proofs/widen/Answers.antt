@@ -1,10 +1,7 @@
 -- `journal::widen` meets its contract: the words passed are the depths.
-use Prim.Native.Nat.{◌-◌, ◌≤◌}
 use mathlib.Core.Path.{◌≡◌, refl, ◌∙◌}
 use native.Mathlib.Omega.{arith}
-use lib.ListN.{length, get_or, length-set}
-use borrow.Author.Rules.{rules}
-use Rattle.planes.specs.Parts.{Filled}
+use lib.ListN.{length, length-set}
 use Rattle.planes.proofs.Fills.{filled_none, filled_next, filled_copy}
 use Rattle.journal.proofs.widen.Goals as goal
 

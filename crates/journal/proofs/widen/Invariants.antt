@@ -1,10 +1,7 @@
 use Prim.Native.Nat.{◌-◌, ◌≤◌}
-use mathlib.Core.Path.{◌≡◌, refl, ◌∙◌}
-use native.Mathlib.Omega.{arith}
-use lib.ListN.{length, get_or, length-set}
-use borrow.Author.Rules.{rules}
+use mathlib.Core.Path.{◌≡◌}
+use lib.ListN.{length, get_or}
 use Rattle.planes.specs.Parts.{Filled}
-use Rattle.planes.proofs.Fills.{filled_none, filled_next, filled_copy}
 use Rattle.journal.proofs.widen.Given as goal
 
 abbrev pub invariant-loop-i : goal.invariant-loop-i

@@ -1,5 +1,4 @@
 -- `journal::write_head` meets its contract: six words, set one by one.
-use borrow.Author.Rules.{rules}
 use Rattle.journal.proofs.Records.{head_set, fifth_inside, sixth_inside}
 use Rattle.journal.proofs.write_head.Goals as goal
 

@@ -5,7 +5,6 @@ use mathlib.Core.List.{List, ◌++◌}
 use native.Mathlib.Omega.{arith}
 use lib.ListN.{length, drop}
 use lib.Seq.{length-take-le}
-use borrow.Author.Rules.{rules}
 use Rattle.journal.specs.Words.{head_of}
 use Rattle.journal.proofs.Records.{head_first}
 use Rattle.journal.proofs.write_record.Goals as goal

@@ -1,12 +1,10 @@
 use mathlib.Core.Path.{refl, sym, ap, ◌∙◌}
 use native.Mathlib.Omega.{arith}
 use mir.Syntax.{w64}
-use borrow.Author.Tests.{not-true, not-false}
 use Rattle.model.specs.Refusals.{number_of}
 use Rattle.signed.proofs.Signed.{read_back}
 use Rattle.signed.proofs.Totals.{within_moves}
 use Rattle.judge.proofs.Judging.{judged_out, judged_in}
-use borrow.Author.Rules.{rules}
 use Rattle.judge.proofs.judge.Goals as goal
 
 pub returns-then-not-in_range : goal.returns-then-not-in_range

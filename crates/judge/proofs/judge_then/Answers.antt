@@ -2,7 +2,6 @@
 use mathlib.Core.Path.{sym, ap, ◌∙◌}
 use Rattle.model.specs.Refusals.{number_of}
 use Rattle.judge.proofs.Judging.{then_eight, then_rest, then_none}
-use borrow.Author.Rules.{rules}
 use Rattle.judge.proofs.judge_then.Goals as goal
 
 pub returns-then-number-ne0 : goal.returns-then-number-ne0

@@ -4,14 +4,12 @@ use native.Mathlib.Omega.{arith}
 use mir.Syntax.{w16}
 use mir.Val.{to_z, of_z}
 use mir.ValLaws.{to_z-of_z}
-use lib.ListN.{length}
 use Rattle.model.specs.Row.{place}
 use Rattle.model.specs.Views.{seen}
 use Rattle.model.proofs.Views.{length_seen}
 use Rattle.planes.proofs.Fills.{filled_none}
 use Rattle.limits.proofs.Below.{below_end, below_most}
-use Rattle.limits.proofs.Falling.{LimitsFrom, limits_next}
-use borrow.Author.Rules.{rules}
+use Rattle.limits.proofs.Falling.{limits_next}
 use Rattle.limits.proofs.draw_limits.Goals as goal
 
 pub loop-c-init : goal.loop-c-init
@@ -42,15 +40,14 @@ pub loop-c-smaller : goal.loop-c-smaller
 loop-c-smaller c = omega (arith, c.loop-c-test.true)
 
 pub loop-c-preserved : goal.loop-c-preserved
-loop-c-preserved c =
-    (
-      c.put_limit.auto.row ∙ c.loop-c.invariant.0,
-      limits_next (to_z w16 (of_z w16 c.limit_of.result)) c.loop-c.invariant.1 c.loop-c-test.true
-          (omega (arith, length_seen c.args.right c.loop-c.limits, c.loop-c.invariant.0, c.requires.columns_bound.1))
-          (c.least-top.ensures ∙ ap (λ (p : ℕ). min p c.loop-c.top) c.place_of-here.ensures)
-          (to_z-of_z w16 c.limit_of.result (record { sfits = c.limit_of.type_inv }) ∙ c.limit_of.ensures)
-          c.put_limit.ensures,
-    )
+loop-c-preserved c = (
+  c.put_limit.auto.row ∙ c.loop-c.invariant.0,
+  limits_next (to_z w16 (of_z w16 c.limit_of.result)) c.loop-c.invariant.1 c.loop-c-test.true
+      (omega (arith, length_seen c.args.right c.loop-c.limits, c.loop-c.invariant.0, c.requires.columns_bound.1))
+      (c.least-top.ensures ∙ ap (λ (p : ℕ). min p c.loop-c.top) c.place_of-here.ensures)
+      (to_z-of_z w16 c.limit_of.result (record { sfits = c.limit_of.type_inv }) ∙ c.limit_of.ensures)
+      c.put_limit.ensures,
+)
 
 pub shape_of-limits : goal.shape_of-limits
 shape_of-limits c = c.loop-c.invariant.0

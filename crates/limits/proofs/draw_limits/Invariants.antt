@@ -1,17 +1,8 @@
-use Prim.Native.Nat.{ℕ, min}
-use mathlib.Core.Path.{◌≡◌, refl, sym, ap, ◌∙◌}
-use native.Mathlib.Omega.{arith}
-use mir.Syntax.{w16}
-use mir.Val.{to_z, of_z}
-use mir.ValLaws.{to_z-of_z}
+use mathlib.Core.Path.{◌≡◌}
 use lib.ListN.{length}
 use Rattle.model.specs.Row.{place}
 use Rattle.model.specs.Views.{seen}
-use Rattle.model.proofs.Views.{length_seen}
-use Rattle.planes.proofs.Fills.{filled_none}
-use Rattle.limits.proofs.Below.{below_end, below_most}
-use Rattle.limits.proofs.Falling.{LimitsFrom, limits_next}
-use borrow.Author.Rules.{rules}
+use Rattle.limits.proofs.Falling.{LimitsFrom}
 use Rattle.limits.proofs.draw_limits.Given as goal
 
 abbrev pub invariant-loop-c : goal.invariant-loop-c

@@ -1,6 +1,5 @@
 use mathlib.Core.Path.{refl}
 use Rattle.model.proofs.Views.{length_seen}
-use borrow.Author.Rules.{rules}
 use Rattle.limits.proofs.edge_of.Goals as goal
 
 pub returns : goal.returns

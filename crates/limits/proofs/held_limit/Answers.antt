@@ -6,7 +6,6 @@ use Rattle.signed.specs.Limits.{raised_of}
 use Rattle.signed.proofs.Signed.{read_back}
 use Rattle.planes.proofs.Entries.{read_at}
 use mathlib.Core.Path.{refl}
-use borrow.Author.Rules.{rules}
 use Rattle.limits.proofs.held_limit.Goals as goal
 
 pub returns : goal.returns

@@ -1,8 +1,8 @@
 -- `limits::last_held` meets its contract: the held limit of `low` is the one that is looked for, and that of `top` is not.
-use Prim.Native.Nat.{ℕ, ◌+◌, ◌-◌, ◌<◌, ◌≤◌, min}
+use Prim.Native.Nat.{ℕ, ◌+◌}
 use mathlib.Core.Path.{◌≡◌, sym, ap, ◌∙◌}
 use native.Mathlib.Omega.{arith}
-use lib.ListN.{length, get_or}
+use lib.ListN.{get_or}
 use lib.IntN.{pos}
 use Rattle.model.specs.Views.{seen}
 use Rattle.model.proofs.Views.{length_seen}
@@ -44,8 +44,7 @@ loop-low-preserved c =
 
 pub returns : goal.returns
 returns c =
-    let z : c.loop-low.top ≡ c.loop-low.low + 1 = omega (arith, c.loop-low.invariant.1.0, c.loop-low-test.false) in
-    (
+    let z : c.loop-low.top ≡ c.loop-low.low + 1 = omega (arith, c.loop-low.invariant.1.0, c.loop-low-test.false) in (
       record {
         from = c.loop-low.invariant.0;
         here = c.loop-low.invariant.1.1.1.0;

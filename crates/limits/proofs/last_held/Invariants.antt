@@ -1,10 +1,8 @@
-use Prim.Native.Nat.{ℕ, ◌+◌, ◌-◌, ◌<◌, ◌≤◌, min}
-use mathlib.Core.Path.{◌≡◌, sym, ap, ◌∙◌}
-use native.Mathlib.Omega.{arith}
+use Prim.Native.Nat.{◌+◌, ◌-◌, ◌<◌, ◌≤◌, min}
+use mathlib.Core.Path.{◌≡◌}
 use lib.ListN.{length, get_or}
 use lib.IntN.{pos}
 use Rattle.model.specs.Views.{seen}
-use Rattle.model.proofs.Views.{length_seen}
 use Rattle.signed.specs.Limits.{raised_of}
 use Rattle.limits.proofs.last_held.Given as goal
 

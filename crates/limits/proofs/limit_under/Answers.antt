@@ -3,7 +3,6 @@ use mathlib.Core.Path.{ap, ◌∙◌}
 use borrow.Author.Tests.{lt-ltb, le-ltb}
 use Rattle.model.proofs.Views.{length_seen}
 use Rattle.limits.specs.Limits.{limit_under}
-use borrow.Author.Rules.{rules}
 use Rattle.limits.proofs.limit_under.Goals as goal
 
 pub returns-then-n-limits : goal.returns-then-n-limits

@@ -1,7 +1,6 @@
 use borrow.Author.Tests.{le-leb, lt-leb}
 use Rattle.model.proofs.Views.{length_seen}
 use Rattle.pixel.specs.Pairs.{next_place}
-use borrow.Author.Rules.{rules}
 use Rattle.limits.proofs.next_place.Goals as goal
 
 pub returns-then-depths-c : goal.returns-then-depths-c

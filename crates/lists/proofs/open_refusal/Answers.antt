@@ -3,7 +3,6 @@ use mathlib.Core.Path.{sym, ap, ◌∙◌}
 use mathlib.Core.Bool.{Bool}
 use native.Mathlib.Omega.{arith}
 use borrow.Author.Tests.{lt-ltb, le-ltb}
-use borrow.Author.Rules.{rules}
 use Rattle.model.specs.Planes.{pictures}
 use Rattle.model.specs.Refusals.{unless, pictures_ok}
 use Rattle.validate.proofs.Numbers.{numbers_before}

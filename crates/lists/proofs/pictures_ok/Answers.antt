@@ -1,7 +1,5 @@
 -- `lists::pictures_ok` meets its contract.
 use mathlib.Core.Path.{sym, ◌∙◌}
-use borrow.Author.Rules.{rules}
-use borrow.Author.Tests.{not-true, not-false}
 use Rattle.model.specs.Refusals.{pictures_ok}
 use Rattle.lists.proofs.pictures_ok.Goals as goal
 

@@ -1,5 +1,4 @@
 use Rattle.validate.proofs.Numbers.{steps_number}
-use borrow.Author.Rules.{rules}
 use Rattle.lists.proofs.set_refusal.Goals as goal
 
 pub returns : goal.returns

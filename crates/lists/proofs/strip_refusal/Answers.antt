@@ -1,11 +1,10 @@
 -- what each test has shown where it passed
 use mathlib.Core.Path.{◌≡◌, sym, ◌∙◌}
 use mathlib.Core.Bool.{true, ◌&&◌}
-use borrow.Author.Tests.{not-true, not-false, le-leb, lt-leb}
+use borrow.Author.Tests.{le-leb, lt-leb}
 use Rattle.model.specs.Refusals.{side_ok, table_ok, tear_ok}
 use Rattle.model.proofs.Refusals.{side_facts}
 use Rattle.lists.specs.Numbers.{strip_fits, strip_number}
-use borrow.Author.Rules.{rules}
 use Rattle.lists.proofs.strip_refusal.Goals as goal
 use Rattle.lists.proofs.strip_refusal.Goals.{Else-not-side_ok, Else-not-strip_sized, Else-not-tables_ok, Else-not-tear_ok}
 

@@ -4,7 +4,6 @@ use borrow.Author.Tests.{eq-eqb}
 use Rattle.model.proofs.Choice.{not_true}
 use Rattle.lists.specs.Numbers.{strip_fits}
 use Rattle.lists.proofs.Strips.{strip_facts}
-use borrow.Author.Rules.{rules}
 use Rattle.lists.proofs.strip_sized.Goals as goal
 
 pub returns-then-texture-w : goal.returns-then-texture-w

@@ -1,7 +1,6 @@
 -- `lists::take_back_refusal` meets its contract: 13 and 12 come after 4.
 use mathlib.Core.Path.{sym, ◌∙◌}
 use Rattle.validate.proofs.Numbers.{numbers_before, sides_passed}
-use borrow.Author.Rules.{rules}
 use Rattle.lists.proofs.take_back_refusal.Goals as goal
 
 pub returns-then-number-ne0 : goal.returns-then-number-ne0

@@ -1,5 +1,4 @@
 -- `marks::held_pixel` meets its contract.
-use borrow.Author.Rules.{rules}
 use Rattle.marks.specs.Puts.{held_pixel}
 use Rattle.marks.proofs.held_pixel.Goals as goal
 

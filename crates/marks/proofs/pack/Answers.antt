@@ -2,7 +2,6 @@
 use mathlib.Core.Path.{◌∙◌}
 use native.Mathlib.Omega.{arith}
 use lib.ListN.{length}
-use borrow.Author.Rules.{rules}
 use Rattle.model.specs.Marks.{mark_bytes}
 use Rattle.marks.proofs.Puts.{put_cleared}
 use Rattle.marks.proofs.pack.Goals as goal

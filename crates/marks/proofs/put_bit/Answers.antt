@@ -3,7 +3,6 @@ use Prim.Native.Nat.{◌*◌, ◌^◌, ◌<◌, ◌≤◌}
 use native.Mathlib.Nat.{mul-le-mul_right}
 use native.Mathlib.Omega.{arith}
 use lib.Pow.{pow_pos, pow-lt}
-use borrow.Author.Rules.{rules}
 use Rattle.marks.proofs.Bits.{one_shl, clear_le, put_bit-lt}
 use Rattle.marks.proofs.put_bit.Goals as goal
 

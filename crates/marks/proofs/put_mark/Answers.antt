@@ -1,5 +1,4 @@
 -- `marks::put_mark` meets its contract.
-use borrow.Author.Rules.{rules}
 use Rattle.marks.proofs.put_mark.Goals as goal
 
 pub returns : goal.returns

@@ -1,5 +1,4 @@
 use borrow.Author.Tests.{lt-ltb, le-ltb}
-use borrow.Author.Rules.{rules}
 use Rattle.pixel.specs.Pairs.{at_edge}
 use Rattle.pixel.proofs.at_edge.Goals as goal
 

@@ -1,4 +1,3 @@
-use borrow.Author.Rules.{rules}
 use Rattle.pixel.proofs.edge_pixel.Goals as goal
 
 pub returns : goal.returns

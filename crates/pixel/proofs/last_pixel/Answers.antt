@@ -1,6 +1,5 @@
 use mathlib.Core.Logic.{⊎_elim}
 use borrow.Author.Tests.{le-leb, lt-leb, le-ltb, lt-ltb}
-use borrow.Author.Rules.{rules}
 use Rattle.model.proofs.Choice.{lt_or_le}
 use Rattle.pixel.specs.Pairs.{last_of}
 use Rattle.pixel.proofs.last_pixel.Goals as goal

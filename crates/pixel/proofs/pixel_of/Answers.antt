@@ -1,5 +1,4 @@
 use borrow.Author.Tests.{le-leb, lt-leb}
-use borrow.Author.Rules.{rules}
 use Rattle.model.proofs.Views.{length_seen}
 use Rattle.pixel.specs.Pairs.{pixel_of}
 use Rattle.pixel.proofs.pixel_of.Goals as goal

@@ -4,7 +4,6 @@ use mathlib.Core.Logic.{⊎_elim}
 use borrow.Author.Tests.{le-leb, lt-leb}
 use Rattle.model.proofs.Choice.{lt_or_le}
 use Rattle.pixel.specs.Pairs.{reached}
-use borrow.Author.Rules.{rules}
 use Rattle.pixel.proofs.reaches.Goals as goal
 
 pub returns : goal.returns

@@ -2,7 +2,6 @@ use Prim.Native.Nat.{◌+◌}
 use mathlib.Core.Path.{sym, ap, ◌∙◌}
 use Rattle.model.specs.Row.{sample_in}
 use Rattle.model.proofs.Readings.{sample_in_seen}
-use borrow.Author.Rules.{rules}
 use Rattle.pixel.proofs.sample_after.Goals as goal
 
 pub returns : goal.returns

@@ -1,4 +1,3 @@
-use borrow.Author.Rules.{rules}
 use Rattle.pixel.specs.Pairs.{smooth_of}
 use Rattle.pixel.proofs.smooth_pixel.Goals as goal
 

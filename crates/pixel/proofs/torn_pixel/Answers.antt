@@ -1,5 +1,4 @@
 use borrow.Author.Tests.{le-leb, lt-leb}
-use borrow.Author.Rules.{rules}
 use Rattle.pixel.specs.Pairs.{torn_of}
 use Rattle.pixel.proofs.torn_pixel.Goals as goal
 

@@ -4,7 +4,6 @@ use native.Mathlib.Omega.{arith}
 use lib.ListN.{get_or, get_or-eq_default}
 use Rattle.model.specs.Views.{seen}
 use Rattle.model.proofs.Views.{length_seen, get_or_seen}
-use borrow.Author.Rules.{rules}
 use Rattle.places.proofs.at.Goals as goal
 
 pub returns-then-c-row : goal.returns-then-c-row

@@ -1,10 +1,9 @@
-use Prim.Native.Nat.{ℕ, ◌+◌, ◌-◌, ◌≤◌, min}
-use mathlib.Core.Path.{◌≡◌, sym, ap, ◌∙◌}
+use Prim.Native.Nat.{ℕ, ◌+◌, ◌-◌, min}
+use mathlib.Core.Path.{sym, ap, ◌∙◌}
 use native.Mathlib.Omega.{arith}
-use Rattle.model.specs.Row.{place, least as leastOf}
+use Rattle.model.specs.Row.{place}
 use Rattle.model.specs.Views.{seen}
 use Rattle.places.proofs.Lows.{least_none, least_back, least_all}
-use borrow.Author.Rules.{rules}
 use Rattle.places.proofs.least_place.Goals as goal
 
 pub loop-i-init : goal.loop-i-init

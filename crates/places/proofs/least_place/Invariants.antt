@@ -1,10 +1,7 @@
-use Prim.Native.Nat.{ℕ, ◌+◌, ◌-◌, ◌≤◌, min}
-use mathlib.Core.Path.{◌≡◌, sym, ap, ◌∙◌}
-use native.Mathlib.Omega.{arith}
+use Prim.Native.Nat.{◌+◌, ◌-◌, ◌≤◌}
+use mathlib.Core.Path.{◌≡◌}
 use Rattle.model.specs.Row.{place, least as leastOf}
 use Rattle.model.specs.Views.{seen}
-use Rattle.places.proofs.Lows.{least_none, least_back, least_all}
-use borrow.Author.Rules.{rules}
 use Rattle.places.proofs.least_place.Given as goal
 
 abbrev pub invariant-loop-i : goal.invariant-loop-i

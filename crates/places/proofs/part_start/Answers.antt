@@ -1,6 +1,5 @@
 use native.Mathlib.Omega.{arith}
 use Rattle.model.specs.Span.{first_column}
-use borrow.Author.Rules.{rules}
 use Rattle.places.proofs.part_start.Goals as goal
 
 pub returns-then-right : goal.returns-then-right

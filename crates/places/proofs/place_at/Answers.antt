@@ -1,6 +1,5 @@
 use native.Mathlib.Omega.{arith}
 use Rattle.model.proofs.Refusals.{table_most}
-use borrow.Author.Rules.{rules}
 use Rattle.places.proofs.place_at.Goals as goal
 
 pub overflow_cast-result-3 : goal.overflow_cast-result-3

@@ -6,7 +6,6 @@ use lib.IntN.{pos}
 use lib.ListN.{set}
 use Rattle.model.specs.Views.{seen}
 use Rattle.model.proofs.Views.{set_seen}
-use borrow.Author.Rules.{rules}
 use Rattle.places.proofs.put_limit.Goals as goal
 
 pub returns : goal.returns

@@ -2,7 +2,6 @@ use Prim.Native.Nat.{ℕ}
 use mathlib.Core.Path.{ap, ◌∙◌}
 use Rattle.model.specs.Row.{place, least as leastOf}
 use Rattle.model.specs.Views.{seen}
-use borrow.Author.Rules.{rules}
 use Rattle.places.proofs.row_low.Goals as goal
 
 pub returns : goal.returns

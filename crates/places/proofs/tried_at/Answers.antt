@@ -4,7 +4,6 @@ use native.Mathlib.Omega.{arith}
 use lib.ListN.{get_or}
 use Rattle.planes.specs.Parts.{splice}
 use Rattle.planes.proofs.Splices.{splice_under, splice_inside, splice_beyond}
-use borrow.Author.Rules.{rules}
 use Rattle.places.proofs.tried_at.Goals as goal
 
 pub returns-then-e-column : goal.returns-then-e-column

@@ -1,6 +1,5 @@
 use native.Mathlib.Omega.{arith}
 use Rattle.model.specs.Views.{entry_of}
-use borrow.Author.Rules.{rules}
 use Rattle.planes.proofs.entry.Goals as goal
 
 pub returns-then-right : goal.returns-then-right

@@ -1,12 +1,6 @@
 -- `ranges::depths_ok` meets its contract: the joined bits and the words to come decide what all words decide.
-use Prim.Native.Nat.{◌-◌, ◌≤◌}
-use mathlib.Core.Path.{◌≡◌, refl, ◌∙◌}
-use mathlib.Core.Bool.{◌&&◌}
+use mathlib.Core.Path.{refl, ◌∙◌}
 use native.Mathlib.Omega.{arith}
-use lib.ListN.{length, drop}
-use lib.Dec.{leb}
-use borrow.Author.Rules.{rules}
-use Rattle.model.specs.Refusals.{up_to}
 use Rattle.ranges.proofs.Joined.{joined_next, joined_end}
 use Rattle.ranges.proofs.depths_ok.Goals as goal
 

@@ -1,11 +1,5 @@
-use Prim.Native.Nat.{◌≤◌, ◌-◌}
-use mathlib.Core.Path.{◌≡◌, refl, ◌∙◌}
-use mathlib.Core.Bool.{◌&&◌}
+use mathlib.Core.Path.{refl, ◌∙◌}
 use native.Mathlib.Omega.{arith}
-use lib.ListN.{length, drop}
-use lib.Dec.{leb}
-use borrow.Author.Rules.{rules}
-use Rattle.model.specs.Refusals.{picture_ok}
 use Rattle.ranges.proofs.Joined.{joined_next, joined_end}
 use Rattle.ranges.proofs.picture_ok.Goals as goal
 

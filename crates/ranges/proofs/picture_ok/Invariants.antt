@@ -1,12 +1,9 @@
 use Prim.Native.Nat.{◌≤◌, ◌-◌}
-use mathlib.Core.Path.{◌≡◌, refl, ◌∙◌}
+use mathlib.Core.Path.{◌≡◌}
 use mathlib.Core.Bool.{◌&&◌}
-use native.Mathlib.Omega.{arith}
 use lib.ListN.{length, drop}
 use lib.Dec.{leb}
-use borrow.Author.Rules.{rules}
 use Rattle.model.specs.Refusals.{picture_ok}
-use Rattle.ranges.proofs.Joined.{joined_next, joined_end}
 use Rattle.ranges.proofs.picture_ok.Given as goal
 
 abbrev pub invariant-loop-i : goal.invariant-loop-i

@@ -1,11 +1,5 @@
-use Prim.Native.Nat.{◌≤◌, ◌-◌}
-use mathlib.Core.Path.{◌≡◌, refl, ◌∙◌}
-use mathlib.Core.Bool.{◌&&◌}
+use mathlib.Core.Path.{refl, ◌∙◌}
 use native.Mathlib.Omega.{arith}
-use lib.ListN.{drop}
-use lib.Dec.{leb}
-use borrow.Author.Rules.{rules}
-use Rattle.model.specs.Refusals.{table_ok}
 use Rattle.ranges.proofs.Joined.{tables_next, tables_end}
 use Rattle.ranges.proofs.tables_ok.Goals as goal
 

@@ -1,11 +1,8 @@
 -- `records::narrow` meets its contract: the entries passed are the words, each of which a byte holds.
-use Prim.Native.Nat.{◌-◌, ◌≤◌}
 use mathlib.Core.Path.{◌≡◌, refl, ◌∙◌}
 use native.Mathlib.Omega.{arith}
-use lib.ListN.{length, get_or, length-set}
-use borrow.Author.Rules.{rules}
+use lib.ListN.{length, length-set}
 use Rattle.model.proofs.Refusals.{up_to_most}
-use Rattle.planes.specs.Parts.{Filled}
 use Rattle.planes.proofs.Fills.{filled_none, filled_next, filled_copy}
 use Rattle.records.proofs.narrow.Goals as goal
 

@@ -4,7 +4,6 @@ use mathlib.Core.Path.{sym, ◌∙◌}
 use native.Mathlib.Omega.{arith}
 use lib.Seq.{length-take-le}
 use Rattle.records.proofs.Narrowing.{part_within, part_size, part_depths, narrowed}
-use borrow.Author.Rules.{rules}
 use Rattle.records.proofs.narrow_rows.Goals as goal
 
 pub rows_next-n-requires : goal.rows_next-n-requires

@@ -2,7 +2,6 @@
 use Prim.Native.Nat.{◌+◌}
 use native.Mathlib.Omega.{arith}
 use Rattle.model.specs.Journals.{word_at}
-use borrow.Author.Rules.{rules}
 use Rattle.records.proofs.newest_record.Goals as goal
 
 pub overflow_cast-to : goal.overflow_cast-to

@@ -1,7 +1,6 @@
 -- `records::strike` meets its contract: word 0 is set, or nothing is.
 use mathlib.Core.Path.{refl, sym, ◌∙◌}
 use Rattle.model.proofs.Journals.{set_newest}
-use borrow.Author.Rules.{rules}
 use Rattle.records.proofs.strike.Goals as goal
 
 pub returns-then-number-eq0 : goal.returns-then-number-eq0

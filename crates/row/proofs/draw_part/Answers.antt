@@ -5,7 +5,6 @@ use Rattle.model.proofs.Views.{length_seen}
 use Rattle.pixel.specs.declared.Edge.{Edge}
 use Rattle.planes.proofs.Splices.{splice_none}
 use Rattle.row.proofs.Wholes.{ready_seen}
-use borrow.Author.Rules.{rules}
 use Rattle.row.proofs.draw_part.Goals as goal
 
 pub pair_at-from-requires : goal.pair_at-from-requires
@@ -18,12 +17,12 @@ draw_span-requires c =
     let limit = ap (λ (e : Edge). e.limit) c.pair_at-from.ensures.1.0 in record {
       ready = rw empty (ready_seen c.args.tear c.args.right c.args.table.now c.args.texture.now c.args.depths.now c.requires.ready, omega arith);
       ahead = rw empty (
-        record {
-          among = rw (length_seen c.args.right c.args.depths.now) c.pair_at-from.ensures.1.1.0;
-          stands = c.pair_at-from.ensures.1.1.1;
-          under = rw (limit, c.pair_at-from.ensures.1.1.1.next, c.pair_at-from.ensures.0) c.requires.columns_nonzero.1.1.0.under;
-          before = rw limit c.requires.columns_nonzero.1.1.1;
-        });
+          record {
+            among = rw (length_seen c.args.right c.args.depths.now) c.pair_at-from.ensures.1.1.0;
+            stands = c.pair_at-from.ensures.1.1.1;
+            under = rw (limit, c.pair_at-from.ensures.1.1.1.next, c.pair_at-from.ensures.0) c.requires.columns_nonzero.1.1.0.under;
+            before = rw limit c.requires.columns_nonzero.1.1.1;
+          });
       fronts_len = c.requires.fronts_len;
     }
 

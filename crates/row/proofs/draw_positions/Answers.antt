@@ -1,17 +1,14 @@
 -- `row::draw_positions` meets its contract: the positions from i on are drawn, the pair is ahead of those below it, and the columns passed
 -- lie past them (proofs/Pass).
 use Prim.Native.Nat.{◌<◌}
-use Prim.Native.Nat.{◌+◌, ◌-◌, ◌≤◌}
+use Prim.Native.Nat.{◌+◌, ◌-◌}
 use mathlib.Core.Path.{◌≡◌, refl, sym, ◌∙◌}
 use native.Mathlib.Omega.{arith}
 use lib.ListN.{length}
-use Rattle.model.specs.Views.{seen}
 use Rattle.model.proofs.Views.{length_seen}
-use Rattle.planes.specs.Parts.{splice, Painted}
+use Rattle.planes.specs.Parts.{splice}
 use Rattle.planes.proofs.Paints.{painted_none, painted_back}
 use Rattle.planes.proofs.Splices.{length-splice}
-use Rattle.pixel.specs.Pairs.{edge_right}
-use Rattle.row.specs.Drawing.{pixel_below, line_with, Ahead, Passed}
 use Rattle.row.proofs.Pass.{ahead_less, ahead_within, ahead_edge, step_column, step_ahead, passed_none, passed_less, step_passed, owner_passed}
 use Rattle.row.proofs.draw_positions.Goals as goal
 

@@ -1,16 +1,10 @@
-use Prim.Native.Nat.{◌<◌}
-use Prim.Native.Nat.{◌+◌, ◌-◌, ◌≤◌}
-use mathlib.Core.Path.{◌≡◌, refl, sym, ◌∙◌}
-use native.Mathlib.Omega.{arith}
+use Prim.Native.Nat.{◌+◌, ◌≤◌}
+use mathlib.Core.Path.{◌≡◌}
 use lib.ListN.{length}
 use Rattle.model.specs.Views.{seen}
-use Rattle.model.proofs.Views.{length_seen}
-use Rattle.planes.specs.Parts.{splice, Painted}
-use Rattle.planes.proofs.Paints.{painted_none, painted_back}
-use Rattle.planes.proofs.Splices.{length-splice}
+use Rattle.planes.specs.Parts.{Painted}
 use Rattle.pixel.specs.Pairs.{edge_right}
 use Rattle.row.specs.Drawing.{pixel_below, line_with, Ahead, Passed}
-use Rattle.row.proofs.Pass.{ahead_less, ahead_within, ahead_edge, step_column, step_ahead, passed_none, passed_less, step_passed, owner_passed}
 use Rattle.row.proofs.draw_positions.Given as goal
 
 abbrev pub invariant-loop-i : goal.invariant-loop-i

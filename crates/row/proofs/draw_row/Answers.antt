@@ -2,7 +2,6 @@ use mathlib.Core.Path.{refl, ◌∙◌}
 use native.Mathlib.Omega.{arith}
 use lib.ListN.{length}
 use Rattle.row.proofs.Wholes.{limits_whole}
-use borrow.Author.Rules.{rules}
 use Rattle.row.proofs.draw_row.Goals as goal
 
 pub draw_limits-requires : goal.draw_limits-requires

@@ -1,4 +1,3 @@
-use borrow.Author.Rules.{rules}
 use Rattle.row.proofs.draw_span.Goals as goal
 
 pub draw_right-requires : goal.draw_right-requires

@@ -4,7 +4,6 @@ use lib.ListN.{length}
 use Rattle.model.specs.Views.{seen}
 use Rattle.model.proofs.Views.{length_seen}
 use Rattle.row.proofs.Wholes.{end_edged, end_before, row_whole}
-use borrow.Author.Rules.{rules}
 use Rattle.row.proofs.draw_view_row.Goals as goal
 
 pub draw_part-requires : goal.draw_part-requires

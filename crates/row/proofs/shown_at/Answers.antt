@@ -1,6 +1,5 @@
 use mathlib.Core.Path.{sym, ◌∙◌}
 use native.Mathlib.Omega.{arith}
-use borrow.Author.Rules.{rules}
 use Rattle.planes.specs.Parts.{splice}
 use Rattle.planes.proofs.Entries.{read_at}
 use Rattle.planes.proofs.Splices.{length-splice}

@@ -7,15 +7,13 @@ use Rattle.planes.specs.Parts.{splice}
 use Rattle.planes.proofs.Entries.{read_at}
 use Rattle.planes.proofs.Splices.{length-splice}
 use Rattle.row.proofs.Columns.{stands_left, past_within}
-use borrow.Author.Rules.{rules}
 use Rattle.row.proofs.step.Goals as goal
 
 pub returns : goal.returns
 returns c =
     let d = splice c.args.depths.now c.args.column c.args.candidate.now in
     let wide = length-splice c.args.depths.now c.args.column c.args.candidate.now c.requires.table_value.1 in
-    let column : c.args.q.column - 1 < length c.args.depths.now = omega (arith, c.requires.among.0.column) in
-    (
+    let column : c.args.q.column - 1 < length c.args.depths.now = omega (arith, c.requires.among.0.column) in (
       refl,
       (
         refl,

@@ -1,5 +1,4 @@
 -- `put` meets its contract.
-use borrow.Author.Rules.{rules}
 use Rattle.rowlines.proofs.Puts.{put_byte}
 use Rattle.rowlines.proofs.put.Goals as goal
 

@@ -1,7 +1,6 @@
 -- `put_field` meets its contract.
 use mathlib.Core.Path.{refl}
 use native.Mathlib.Omega.{arith}
-use borrow.Author.Rules.{rules}
 use Rattle.rowtext.proofs.Lengths.{length_5}
 use Rattle.rowlines.proofs.Puts.{put_then, put_as}
 use Rattle.rowlines.proofs.put_field.Goals as goal

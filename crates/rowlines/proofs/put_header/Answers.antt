@@ -1,5 +1,4 @@
 -- `put_header` meets its contract.
-use borrow.Author.Rules.{rules}
 use Rattle.rowlines.proofs.Puts.{put_header}
 use Rattle.rowlines.proofs.put_header.Goals as goal
 

@@ -1,5 +1,4 @@
 -- `put_position` meets its contract.
-use borrow.Author.Rules.{rules}
 use Rattle.rowlines.proofs.Puts.{put_position}
 use Rattle.rowlines.proofs.put_position.Goals as goal
 

@@ -1,10 +1,8 @@
 -- `put_row` meets its contract. The loop's invariant: the header and the lines of the positions below p are written.
-use Prim.Native.Nat.{◌≤◌, ◌-◌}
 use native.Mathlib.Omega.{arith}
-use borrow.Author.Rules.{rules}
 use Rattle.rowlines.specs.Printed.{header_of}
 use Rattle.rowlines.specs.Steps.{shown_line}
-use Rattle.rowlines.proofs.Puts.{Lines, lines_none, lines_next, lines_all, put_shown}
+use Rattle.rowlines.proofs.Puts.{lines_none, lines_next, lines_all, put_shown}
 use Rattle.rowlines.proofs.put_row.Goals as goal
 
 pub loop-p-init : goal.loop-p-init
@@ -12,12 +10,11 @@ loop-p-init c =
     (omega arith, lines_none (shown_line c.args.samples.now c.args.marks.now c.args.fronts.now) (header_of c.args.w) c.put_header-at.ensures)
 
 pub loop-p-preserved : goal.loop-p-preserved
-loop-p-preserved c =
-    (
-      omega arith,
-      lines_next (shown_line c.args.samples.now c.args.marks.now c.args.fronts.now) (header_of c.args.w) c.loop-p.p c.loop-p.invariant.1
-          (put_shown c.args.samples.now c.args.marks.now c.args.fronts.now c.loop-p.p c.mark_at.result c.mark_at.ensures c.put_position-at.ensures),
-    )
+loop-p-preserved c = (
+  omega arith,
+  lines_next (shown_line c.args.samples.now c.args.marks.now c.args.fronts.now) (header_of c.args.w) c.loop-p.p c.loop-p.invariant.1
+      (put_shown c.args.samples.now c.args.marks.now c.args.fronts.now c.loop-p.p c.mark_at.result c.mark_at.ensures c.put_position-at.ensures),
+)
 
 pub returns : goal.returns
 returns c =

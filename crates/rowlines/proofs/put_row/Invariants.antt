@@ -1,9 +1,7 @@
 use Prim.Native.Nat.{◌≤◌, ◌-◌}
-use native.Mathlib.Omega.{arith}
-use borrow.Author.Rules.{rules}
 use Rattle.rowlines.specs.Printed.{header_of}
 use Rattle.rowlines.specs.Steps.{shown_line}
-use Rattle.rowlines.proofs.Puts.{Lines, lines_none, lines_next, lines_all, put_shown}
+use Rattle.rowlines.proofs.Puts.{Lines}
 use Rattle.rowlines.proofs.put_row.Given as goal
 
 abbrev pub invariant-loop-p : goal.invariant-loop-p

@@ -1,9 +1,5 @@
 -- `put_text` meets its contract.
-use Prim.Native.Nat.{◌≤◌, ◌-◌}
 use native.Mathlib.Omega.{arith}
-use lib.ListN.{length, take}
-use borrow.Author.Rules.{rules}
-use Rattle.rowlines.specs.Steps.{Put}
 use Rattle.rowlines.proofs.Puts.{put_none, put_next, put_all}
 use Rattle.rowlines.proofs.put_text.Goals as goal
 

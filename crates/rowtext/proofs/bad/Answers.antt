@@ -1,6 +1,5 @@
 -- `bad` meets its contract.
 use mathlib.Core.Path.{refl}
-use borrow.Author.Rules.{rules}
 use Rattle.rowtext.proofs.Entries.{zeros_zero}
 use Rattle.rowtext.proofs.bad.Goals as goal
 

@@ -1,5 +1,4 @@
 -- `digit_at` meets its contract.
-use borrow.Author.Rules.{rules}
 use Rattle.rowtext.proofs.digit_at.Goals as goal
 
 pub returns : goal.returns

@@ -1,6 +1,5 @@
 -- `digit_of` meets its contract.
 use native.Mathlib.Omega.{arith}
-use borrow.Author.Rules.{rules}
 use borrow.Author.Tests.{lt-ltb, le-ltb}
 use Rattle.rowtext.specs.Reader.{digit_of}
 use Rattle.rowtext.proofs.digit_of.Goals as goal

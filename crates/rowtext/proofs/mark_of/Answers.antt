@@ -2,7 +2,6 @@
 use Prim.Native.Nat.{ℕ, zero, suc}
 use mathlib.Core.Path.{◌≡◌, refl}
 use native.Mathlib.Omega.{arith}
-use borrow.Author.Rules.{rules}
 use Rattle.rowtext.specs.Format.{space}
 use Rattle.rowtext.specs.Reader.{mark_of}
 use Rattle.rowtext.proofs.mark_of.Goals as goal

@@ -1,7 +1,6 @@
 -- `read_field` meets its contract: the laws of Positions at the number's end.
 use mathlib.Core.Path.{sym, ◌∙◌}
 use native.Mathlib.Omega.{arith}
-use borrow.Author.Rules.{rules}
 use Rattle.rowtext.proofs.Positions.{field_missing, field_next, field_found, field_other}
 use Rattle.rowtext.proofs.read_field.Goals as goal
 

@@ -1,12 +1,8 @@
 -- `read_line` meets its contract. The loop's invariant: the line is read as its first k numbers before what is read of the rest.
-use Prim.Native.Nat.{◌≤◌, ◌-◌}
-use mathlib.Core.Path.{◌≡◌, ap, ◌∙◌}
+use mathlib.Core.Path.{ap, ◌∙◌}
 use native.Mathlib.Omega.{arith}
-use lib.ListN.{length, take, drop, length-set}
-use borrow.Author.Rules.{rules}
-use Rattle.rowtext.specs.Promise.{ZeroFrom}
-use Rattle.rowtext.specs.Reader.{read_line}
-use Rattle.rowtext.proofs.Lines.{ahead, turn_first, turn_on, turn_off, turn_end}
+use lib.ListN.{length, length-set}
+use Rattle.rowtext.proofs.Lines.{turn_first, turn_on, turn_off, turn_end}
 use Rattle.rowtext.proofs.Entries.{zeros_zero, zeros_set}
 use Rattle.rowtext.proofs.read_line.Goals as goal
 

@@ -1,12 +1,9 @@
 use Prim.Native.Nat.{◌≤◌, ◌-◌}
-use mathlib.Core.Path.{◌≡◌, ap, ◌∙◌}
-use native.Mathlib.Omega.{arith}
-use lib.ListN.{length, take, drop, length-set}
-use borrow.Author.Rules.{rules}
+use mathlib.Core.Path.{◌≡◌}
+use lib.ListN.{length, take, drop}
 use Rattle.rowtext.specs.Promise.{ZeroFrom}
 use Rattle.rowtext.specs.Reader.{read_line}
-use Rattle.rowtext.proofs.Lines.{ahead, turn_first, turn_on, turn_off, turn_end}
-use Rattle.rowtext.proofs.Entries.{zeros_zero, zeros_set}
+use Rattle.rowtext.proofs.Lines.{ahead}
 use Rattle.rowtext.proofs.read_line.Given as goal
 
 abbrev pub invariant-loop-k : goal.invariant-loop-k

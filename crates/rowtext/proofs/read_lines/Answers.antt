@@ -1,7 +1,6 @@
 -- `read_lines` meets its contract: the laws of Rows, one for each way out.
 use mathlib.Core.Path.{sym, ◌∙◌}
 use native.Mathlib.Omega.{arith}
-use borrow.Author.Rules.{rules}
 use Rattle.rowtext.specs.Format.{row_text, nearest}
 use Rattle.rowtext.proofs.Lines.{line_most}
 use Rattle.rowtext.proofs.Rows.{no_samples, no_depths, lines_then, not_the_end, the_end}

@@ -1,10 +1,7 @@
 -- `read_number` meets its contract. The loop's invariant: the number is read as its digits so far, and then the rest of the text, are read.
-use Prim.Native.Nat.{◌≤◌, ◌<◌, ◌-◌}
-use mathlib.Core.Path.{◌≡◌, sym, ◌∙◌}
+use Prim.Native.Nat.{◌<◌}
+use mathlib.Core.Path.{sym, ◌∙◌}
 use native.Mathlib.Omega.{arith}
-use lib.ListN.{length, drop}
-use borrow.Author.Rules.{rules}
-use Rattle.rowtext.specs.Reader.{read_number, read_digits}
 use Rattle.rowtext.proofs.Positions.{digit_within, first_at_lem, none_at, more_at, zero_at, large_at, stop_at}
 use Rattle.rowtext.proofs.read_number.Goals as goal
 

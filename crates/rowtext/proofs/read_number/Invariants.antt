@@ -1,10 +1,7 @@
-use Prim.Native.Nat.{◌≤◌, ◌<◌, ◌-◌}
-use mathlib.Core.Path.{◌≡◌, sym, ◌∙◌}
-use native.Mathlib.Omega.{arith}
+use Prim.Native.Nat.{◌≤◌, ◌-◌}
+use mathlib.Core.Path.{◌≡◌}
 use lib.ListN.{length, drop}
-use borrow.Author.Rules.{rules}
 use Rattle.rowtext.specs.Reader.{read_number, read_digits}
-use Rattle.rowtext.proofs.Positions.{digit_within, first_at_lem, none_at, more_at, zero_at, large_at, stop_at}
 use Rattle.rowtext.proofs.read_number.Given as goal
 
 abbrev pub invariant-loop-at : goal.invariant-loop-at

@@ -1,5 +1,4 @@
 -- `read_row` meets its contract: what the steps read of the text, and the promise that follows from it.
-use borrow.Author.Rules.{rules}
 use Rattle.rowtext.proofs.Rows.{no_width, zero_width, width_then, promised}
 use Rattle.rowtext.proofs.read_row.Goals as goal
 

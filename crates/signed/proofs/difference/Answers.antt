@@ -1,7 +1,6 @@
 -- `signed::difference` meets its contract.
 use native.Mathlib.Omega.{arith}
 use mir.Syntax.{w64}
-use borrow.Author.Rules.{rules}
 use Rattle.signed.proofs.Signed.{minus_fits, minus_is}
 use Rattle.signed.proofs.difference.Goals as goal
 

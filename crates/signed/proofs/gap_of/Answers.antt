@@ -1,7 +1,6 @@
 -- `signed::gap_of` meets its contract.
 use native.Mathlib.Omega.{arith}
 use mir.Syntax.{w32}
-use borrow.Author.Rules.{rules}
 use Rattle.signed.proofs.Signed.{minus_fits, minus_is}
 use Rattle.signed.proofs.gap_of.Goals as goal
 

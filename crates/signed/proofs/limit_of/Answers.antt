@@ -1,7 +1,6 @@
 -- `signed::limit_of` meets its contract.
 use native.Mathlib.Omega.{arith}
 use mir.Syntax.{w16}
-use borrow.Author.Rules.{rules}
 use Rattle.signed.proofs.Signed.{minus_fits, minus_is}
 use Rattle.signed.proofs.limit_of.Goals as goal
 

@@ -1,6 +1,5 @@
 -- `signed::moved_total` meets its contract.
 use mathlib.Core.Path.{sym}
-use borrow.Author.Rules.{rules}
 use Rattle.signed.proofs.Totals.{moved_is}
 use Rattle.signed.proofs.moved_total.Goals as goal
 

@@ -1,6 +1,5 @@
 -- `strips::error_with` meets its contract: the combined sample and its squared error are what the leaves answer.
 use mathlib.Core.Path.{◌∙◌}
-use borrow.Author.Rules.{rules}
 use Rattle.marks.proofs.Held.{held_most}
 use Rattle.sums.proofs.Sides.{paired_most}
 use Rattle.strips.proofs.error_with.Goals as goal

@@ -1,11 +1,7 @@
 -- `strips::measure` meets its contract: the two sums so far, entry by entry.
-use Prim.Native.Nat.{◌-◌, ◌≤◌}
 use mathlib.Core.Path.{◌≡◌, ◌∙◌}
 use native.Mathlib.Omega.{arith}
-use lib.ListN.{length, get_or}
-use borrow.Author.Rules.{rules}
-use Rattle.model.specs.Row.{pixel}
-use Rattle.strips.specs.Strips.{around, Measured}
+use lib.ListN.{length}
 use Rattle.strips.proofs.Rows.{measured_none, measured_next}
 use Rattle.strips.proofs.measure.Goals as goal
 
@@ -34,11 +30,10 @@ pub overflow_add-old : goal.overflow_add-old
 overflow_add-old c = omega (arith, c.loop-k.invariant.0, c.loop-k.invariant.1.old_most, c.error_at.ensures.1, c.wide-old.ensures, c.requires.s_in_bounds)
 
 pub loop-k-preserved : goal.loop-k-preserved
-loop-k-preserved c =
-    (
-      omega (arith, c.loop-k-test.true),
-      measured_next c.loop-k.invariant.1 (c.wide-old.ensures ∙ c.error_at.ensures.0) (omega (arith, c.wide-old.ensures, c.error_at.ensures.1)) (c.wide-new.ensures ∙ c.error_with-error.ensures.0) (omega (arith, c.wide-new.ensures, c.error_with-error.ensures.1)),
-    )
+loop-k-preserved c = (
+  omega (arith, c.loop-k-test.true),
+  measured_next c.loop-k.invariant.1 (c.wide-old.ensures ∙ c.error_at.ensures.0) (omega (arith, c.wide-old.ensures, c.error_at.ensures.1)) (c.wide-new.ensures ∙ c.error_with-error.ensures.0) (omega (arith, c.wide-new.ensures, c.error_with-error.ensures.1)),
+)
 
 pub returns : goal.returns
 returns c =

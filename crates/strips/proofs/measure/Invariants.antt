@@ -1,11 +1,7 @@
 use Prim.Native.Nat.{◌-◌, ◌≤◌}
-use mathlib.Core.Path.{◌≡◌, ◌∙◌}
-use native.Mathlib.Omega.{arith}
 use lib.ListN.{length, get_or}
-use borrow.Author.Rules.{rules}
 use Rattle.model.specs.Row.{pixel}
 use Rattle.strips.specs.Strips.{around, Measured}
-use Rattle.strips.proofs.Rows.{measured_none, measured_next}
 use Rattle.strips.proofs.measure.Given as goal
 
 abbrev pub invariant-loop-k : goal.invariant-loop-k

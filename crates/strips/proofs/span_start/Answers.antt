@@ -1,10 +1,9 @@
 -- `strips::span_start` meets its contract: the loop finds the least of the old and the new places, from the right.
 use Rattle.row.proofs.Columns.{place_is}
-use Prim.Native.Nat.{ℕ, ◌+◌, ◌-◌, ◌<◌, ◌≤◌, min}
+use Prim.Native.Nat.{ℕ, ◌+◌, ◌-◌, ◌<◌, min}
 use mathlib.Core.Path.{◌≡◌, refl, sym, ap, ◌∙◌}
 use native.Mathlib.Omega.{arith}
 use lib.ListN.{length}
-use borrow.Author.Rules.{rules}
 use Rattle.model.specs.Row.{place, least}
 use Rattle.model.specs.Views.{seen}
 use Rattle.planes.specs.Parts.{splice}

@@ -12,7 +12,6 @@ use Rattle.row.proofs.Below.{below_sample}
 use Rattle.row.proofs.Pass.{ahead_within}
 use Rattle.strips.specs.Strips.{around}
 use Rattle.strips.proofs.Rows.{measured_summed, strip_most}
-use borrow.Author.Rules.{rules}
 use Rattle.strips.proofs.trial_into.Goals as goal
 
 pub overflow_add-start : goal.overflow_add-start

@@ -12,7 +12,6 @@ use Rattle.limits.proofs.Limits.{edge_edged}
 use Rattle.strips.specs.Strips.{around, own}
 use Rattle.strips.proofs.Rows.{row_trial}
 use Rattle.strips.proofs.Strips.{tried_line, tried_ready, first_ahead}
-use borrow.Author.Rules.{rules}
 use Rattle.strips.proofs.trial_row.Goals as goal
 
 pub span_start-start-requires : goal.span_start-start-requires
@@ -41,17 +40,22 @@ pub trial_strips-requires : goal.trial_strips-requires
 trial_strips-requires c =
     let width : c.args.first + length c.args.candidate.now - c.args.first ≡ length c.args.candidate.now = omega arith in
     let part = rw width at c.part_start-column.ensures.0 in
-    let column : c.part_start-column.result + length c.args.candidate.now ≤ length c.args.depths.now = rw width at c.part_start-column.ensures.1 in record { squares = (c.requires.table_value.1.0, c.requires.table_value.1.1); beside = c.requires.beside; ready = (
-            tried_ready c.args.tear c.args.right c.args.table.now c.args.texture.now c.args.depths.now c.args.candidate.now c.args.first _ c.requires.candidate_nonzero.1.0 part c.requires.table_value.0 (c.requires.depths_len.1.0 ∙ sym c.requires.depths_len.0) c.requires.candidate_nonzero.0 (omega (arith, c.requires.depths_len.0, c.requires.candidate_nonzero.1.1)),
-            (column, sym c.requires.depths_len.0),
-          ); ahead = first_ahead c.args.tear c.args.right c.args.table.now c.args.texture.now c.args.depths.now c.args.candidate.now c.args.first _ c.requires.candidate_nonzero.1.0 part (seen c.args.right c.args.limits.now) c.pair_of-from.result c.edge_of-edge.result c.requires.candidate_nonzero.0 c.pair_of-from.ensures.0 c.pair_of-from.ensures.1.0
-              (c.pair_of-from.ensures.1.1.0 ∙ c.at-d0.ensures)
-              (c.pair_of-from.ensures.1.1.1.0 ∙ c.at-d1.ensures)
-              (rw (c.pair_of-from.ensures.1.0, c.pair_of-from.ensures.1.1.0) c.pair_of-from.ensures.1.1.1.1.0)
-              (c.pair_of-from.ensures.1.1.1.1.1.0 ∙ c.next_place-next.ensures)
-              c.pair_of-from.ensures.1.1.1.1.1.1 c.edge_of-edge.ensures.limit
-              (c.limit_under-high.ensures ∙ ap (limit_under (seen c.args.right c.args.limits.now) (c.args.first + length c.args.candidate.now)) (sym c.pair_of-from.ensures.1.1.1.1.1.0))
-              c.first_at.ensures }
+    let column : c.part_start-column.result + length c.args.candidate.now ≤ length c.args.depths.now = rw width at c.part_start-column.ensures.1 in record {
+      squares = (c.requires.table_value.1.0, c.requires.table_value.1.1);
+      beside = c.requires.beside;
+      ready = (
+        tried_ready c.args.tear c.args.right c.args.table.now c.args.texture.now c.args.depths.now c.args.candidate.now c.args.first _ c.requires.candidate_nonzero.1.0 part c.requires.table_value.0 (c.requires.depths_len.1.0 ∙ sym c.requires.depths_len.0) c.requires.candidate_nonzero.0 (omega (arith, c.requires.depths_len.0, c.requires.candidate_nonzero.1.1)),
+        (column, sym c.requires.depths_len.0),
+      );
+      ahead = first_ahead c.args.tear c.args.right c.args.table.now c.args.texture.now c.args.depths.now c.args.candidate.now c.args.first _ c.requires.candidate_nonzero.1.0 part (seen c.args.right c.args.limits.now) c.pair_of-from.result c.edge_of-edge.result c.requires.candidate_nonzero.0 c.pair_of-from.ensures.0 c.pair_of-from.ensures.1.0
+          (c.pair_of-from.ensures.1.1.0 ∙ c.at-d0.ensures)
+          (c.pair_of-from.ensures.1.1.1.0 ∙ c.at-d1.ensures)
+          (rw (c.pair_of-from.ensures.1.0, c.pair_of-from.ensures.1.1.0) c.pair_of-from.ensures.1.1.1.1.0)
+          (c.pair_of-from.ensures.1.1.1.1.1.0 ∙ c.next_place-next.ensures)
+          c.pair_of-from.ensures.1.1.1.1.1.1 c.edge_of-edge.ensures.limit
+          (c.limit_under-high.ensures ∙ ap (limit_under (seen c.args.right c.args.limits.now) (c.args.first + length c.args.candidate.now)) (sym c.pair_of-from.ensures.1.1.1.1.1.0))
+          c.first_at.ensures;
+    }
 
 pub returns : goal.returns
 returns c =

@@ -2,7 +2,6 @@
 use mathlib.Core.Path.{sym, ◌∙◌}
 use native.Mathlib.Omega.{arith}
 use lib.Seq.{length-take-le}
-use borrow.Author.Rules.{rules}
 use Rattle.strips.proofs.trial_strip.Goals as goal
 
 pub slice_bounds-trial_into-end : goal.slice_bounds-trial_into-end

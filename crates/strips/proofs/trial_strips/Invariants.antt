@@ -1,13 +1,6 @@
-use Prim.Native.Nat.{◌+◌, ◌-◌}
-use mathlib.Core.Path.{◌≡◌, ◌∙◌}
-use native.Mathlib.Omega.{arith}
-use Rattle.model.proofs.Views.{length_seen}
-use Rattle.planes.specs.Parts.{splice}
-use Rattle.planes.proofs.Splices.{length-splice}
 use Rattle.row.specs.Drawing.{line_with}
-use Rattle.row.proofs.Pass.{ahead_within}
 use Rattle.strips.specs.Strips.{around}
-use Rattle.strips.proofs.Strips.{Strips, strips_start, strips_next, strips_end}
+use Rattle.strips.proofs.Strips.{Strips}
 use Rattle.strips.proofs.trial_strips.Given as goal
 
 abbrev pub invariant-loop-top : goal.invariant-loop-top

@@ -1,5 +1,4 @@
 -- `sums::error_at` meets its contract: both samples are read.
-use borrow.Author.Rules.{rules}
 use Rattle.sums.proofs.error_at.Goals as goal
 
 pub returns : goal.returns

@@ -1,5 +1,4 @@
 -- `sums::near` meets its contract.
-use borrow.Author.Rules.{rules}
 use Rattle.sums.proofs.near.Goals as goal
 
 pub returns : goal.returns

@@ -1,7 +1,6 @@
 -- `sums::own_share` meets its contract.
 use mathlib.Core.Path.{refl}
 use native.Mathlib.Omega.{arith}
-use borrow.Author.Rules.{rules}
 use Rattle.sums.specs.Sides.{own_share}
 use Rattle.sums.proofs.own_share.Goals as goal
 

@@ -1,8 +1,6 @@
 -- `sums::paired` meets its contract: the sample is blended, or one of the two is taken.
 use mathlib.Core.Path.{◌≡◌, ◌∙◌}
 use mathlib.Core.Bool.{cond}
-use mathlib.Core.Logic.{⊎_elim}
-use borrow.Author.Rules.{rules}
 use borrow.Author.Tests.{leb-true, leb-false}
 use Rattle.sums.specs.Sides.{paired}
 use Rattle.sums.proofs.Sides.{both_shown_lem, shown_both, paired_blended, paired_chosen}
@@ -16,8 +14,9 @@ chosen c =
     rw c.prefers.ensures
     (paired_chosen c.args.right c.args.share c.args.tolerance c.args.own c.args.other
     (λ p q. elim c.if-own-other-eq0.branch [
-      goal.then-own-other-eq0+else-near w ↦ leb-false _ _ (rw w.near.ensures at w.if-near.false)
-      | goal.else-own-other-eq0 w ↦ absurd (w.if-own-other-eq0.false (shown_both c.args.own.mark c.args.other.mark p q)) ]))
+      | goal.then-own-other-eq0+else-near w ↦ leb-false _ _ (rw w.near.ensures at w.if-near.false)
+      | goal.else-own-other-eq0 w ↦ absurd (w.if-own-other-eq0.false (shown_both c.args.own.mark c.args.other.mark p q))
+    ]))
 
 pub returns-then-near : goal.returns-then-near
 returns-then-near c =

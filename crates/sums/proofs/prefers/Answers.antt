@@ -1,7 +1,6 @@
 -- `sums::prefers` meets its contract, case by case.
 use native.Mathlib.Omega.{arith}
 use borrow.Author.Tests.{eq-eqb, ne_eqb}
-use borrow.Author.Rules.{rules}
 use Rattle.sums.specs.Sides.{prefers_own}
 use Rattle.sums.proofs.Sides.{byte_most, own_hole_lem}
 use Rattle.sums.proofs.prefers.Goals as goal

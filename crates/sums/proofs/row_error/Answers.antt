@@ -1,12 +1,9 @@
 -- `sums::row_error` meets its contract: the errors passed are summed.
-use Prim.Native.Nat.{◌-◌, ◌*◌, ◌≤◌}
 use mathlib.Core.Path.{◌≡◌, refl, ◌∙◌}
 use native.Mathlib.Omega.{arith}
 use native.Mathlib.Numerals.{add-one}
 use lib.ListN.{length}
 use Rattle.model.specs.Lists.{sum_to}
-use Rattle.model.specs.Row.{sample_in}
-use Rattle.model.specs.Combined.{worst, square_error}
 use Rattle.sums.proofs.row_error.Goals as goal
 
 pub loop-i-init : goal.loop-i-init

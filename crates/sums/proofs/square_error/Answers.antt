@@ -3,7 +3,6 @@ use Prim.Native.Nat.{◌≤◌}
 use mathlib.Core.Path.{◌≡◌}
 use native.Mathlib.Omega.{arith}
 use lib.ListN.{get_or}
-use borrow.Author.Rules.{rules}
 use Rattle.model.specs.Row.{greatest}
 use Rattle.model.specs.Combined.{worst, apart, square_error}
 use Rattle.model.proofs.Totals.{square_most}

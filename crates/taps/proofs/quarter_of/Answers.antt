@@ -1,5 +1,4 @@
 use Rattle.taps.specs.Sums.{quarter_of}
-use borrow.Author.Rules.{rules}
 use Rattle.taps.proofs.quarter_of.Goals as goal
 
 pub returns : goal.returns

@@ -1,5 +1,4 @@
 use native.Mathlib.Omega.{arith}
-use borrow.Author.Rules.{rules}
 use Rattle.taps.specs.Sums.{scaled}
 use Rattle.taps.proofs.scale.Goals as goal
 

@@ -4,7 +4,6 @@ use borrow.Author.Tests.{le-leb, leb-true}
 use Rattle.model.proofs.Choice.{not_true}
 use Rattle.model.proofs.Refusals.{block_yes, block_facts}
 use Rattle.model.proofs.Choice.{same_test}
-use borrow.Author.Rules.{rules}
 use Rattle.validate.proofs.block_ok.Goals as goal
 
 pub returns-then-block-lt1 : goal.returns-then-block-lt1

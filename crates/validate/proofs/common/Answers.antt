@@ -1,11 +1,10 @@
 -- what each test has shown where it passed
 use mathlib.Core.Path.{◌≡◌, sym, ◌∙◌}
 use mathlib.Core.Bool.{true, ◌&&◌}
-use borrow.Author.Tests.{not-true, not-false, le-leb, lt-leb}
+use borrow.Author.Tests.{le-leb, lt-leb}
 use Rattle.model.specs.Refusals.{side_ok, table_ok}
 use Rattle.validate.specs.Numbers.{planes_fit, common_number}
 use Rattle.model.proofs.Refusals.{side_facts}
-use borrow.Author.Rules.{rules}
 use Rattle.validate.proofs.common.Goals as goal
 use Rattle.validate.proofs.common.Goals.{Else-not-planes_sized, Else-not-side_ok, Else-not-side_ok-2, Else-not-tables_ok}
 

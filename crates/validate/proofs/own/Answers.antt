@@ -1,7 +1,6 @@
 use mathlib.Core.Path.{sym, ◌∙◌}
-use borrow.Author.Tests.{not-true, not-false, le-leb, lt-leb}
+use borrow.Author.Tests.{le-leb, lt-leb}
 use Rattle.validate.specs.Numbers.{own_number}
-use borrow.Author.Rules.{rules}
 use Rattle.validate.proofs.own.Goals as goal
 
 pub returns-then-view-gt1 : goal.returns-then-view-gt1

@@ -2,11 +2,10 @@ use Prim.Native.Nat.{◌+◌, ◌/◌, ◌≤◌}
 use mathlib.Core.Path.{sym, ◌∙◌}
 use native.Mathlib.Omega.{arith}
 use native.Mathlib.Nat.{mul-le-mul}
-use borrow.Author.Tests.{not-true, not-false, eq-eqb}
+use borrow.Author.Tests.{eq-eqb}
 use Rattle.model.proofs.Choice as choice
 use Rattle.validate.specs.Numbers.{planes_fit}
 use Rattle.validate.proofs.Facts.{planes_facts}
-use borrow.Author.Rules.{rules}
 use Rattle.validate.proofs.planes_sized.Goals as goal
 
 pub overflow_mul-n : goal.overflow_mul-n

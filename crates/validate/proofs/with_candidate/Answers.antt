@@ -1,6 +1,5 @@
 use mathlib.Core.Path.{sym, ◌∙◌}
 use borrow.Author.Tests.{eq-eqb, ne_eqb}
-use borrow.Author.Rules.{rules}
 use Rattle.validate.proofs.with_candidate.Goals as goal
 
 pub returns-then-number-ne0 : goal.returns-then-number-ne0

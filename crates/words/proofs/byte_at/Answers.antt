@@ -1,7 +1,6 @@
 -- `words::byte_at` meets its contract: an entry of the row is a byte.
 use mathlib.Core.Path.{refl}
 use native.Mathlib.Omega.{arith}
-use borrow.Author.Rules.{rules}
 use Rattle.words.proofs.byte_at.Goals as goal
 
 pub overflow_cast-result : goal.overflow_cast-result

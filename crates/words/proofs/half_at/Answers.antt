@@ -1,7 +1,6 @@
 -- `words::half_at` meets its contract: the sum of the shifted bytes is the joined bytes.
 use native.Mathlib.Nat.{add-zero}
 use native.Mathlib.Omega.{arith}
-use borrow.Author.Rules.{rules}
 use Rattle.model.specs.Lists.{sum_to}
 use Rattle.words.specs.Words.{joined}
 use Rattle.words.proofs.half_at.Goals as goal

@@ -1,5 +1,5 @@
 -- `words::holes` meets its contract: the holes of the rows passed are counted.
-use Prim.Native.Nat.{◌+◌, ◌-◌, ◌*◌, ◌≤◌}
+use Prim.Native.Nat.{◌+◌, ◌*◌, ◌≤◌}
 use mathlib.Core.Path.{◌≡◌, refl, ◌∙◌}
 use native.Mathlib.Nat.{le_trans}
 use native.Mathlib.Numerals.{add-one}
@@ -61,14 +61,13 @@ loop-y-smaller c = omega arith
 
 pub loop-y-preserved : goal.loop-y-preserved
 unfolding holes_in sum_to
-loop-y-preserved c =
-    (
-      omega arith,
-      (
-        omega (arith, few (goal.at.loop-y-preserved c).After-row_holes),
-        rw (add-one c.loop-y.y) (rw (c.row_holes.ensures, c.loop-y.invariant.1.1, part_row c.args.marks.now (mark_bytes c.args.w) c.loop-y.y)),
-      ),
-    )
+loop-y-preserved c = (
+  omega arith,
+  (
+    omega (arith, few (goal.at.loop-y-preserved c).After-row_holes),
+    rw (add-one c.loop-y.y) (rw (c.row_holes.ensures, c.loop-y.invariant.1.1, part_row c.args.marks.now (mark_bytes c.args.w) c.loop-y.y)),
+  ),
+)
 
 pub returns : goal.returns
 returns c =

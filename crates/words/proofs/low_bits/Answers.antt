@@ -1,5 +1,4 @@
 -- `words::low_bits` meets its contract.
-use borrow.Author.Rules.{rules}
 use lib.Pow.{pow_pos}
 use Rattle.marks.proofs.Bits.{one_shl}
 use Rattle.words.proofs.low_bits.Goals as goal

@@ -1,8 +1,7 @@
 -- `words::row_holes` meets its contract: the holes of the words passed are counted, then those of the tail.
-use Prim.Native.Nat.{◌+◌, ◌-◌, ◌*◌, ◌/◌, ◌%◌, ◌≤◌}
+use Prim.Native.Nat.{◌+◌, ◌*◌, ◌/◌, ◌%◌}
 use mathlib.Core.Path.{◌≡◌, refl, sym}
 use native.Mathlib.Omega.{arith}
-use borrow.Author.Rules.{rules}
 use lib.Count.{ones}
 use Rattle.model.specs.Lists.{sum_to}
 use Rattle.model.specs.Marks.{row_holes}

@@ -1,12 +1,6 @@
-use Prim.Native.Nat.{◌+◌, ◌-◌, ◌*◌, ◌/◌, ◌%◌, ◌≤◌}
-use mathlib.Core.Path.{◌≡◌, refl, sym}
-use native.Mathlib.Omega.{arith}
-use borrow.Author.Rules.{rules}
-use lib.Count.{ones}
-use Rattle.model.specs.Lists.{sum_to}
+use Prim.Native.Nat.{◌-◌, ◌*◌, ◌≤◌}
+use mathlib.Core.Path.{◌≡◌}
 use Rattle.model.specs.Marks.{row_holes}
-use Rattle.words.proofs.Counts.{holes_most}
-use Rattle.words.proofs.Words.{Bytes, joined_holes, word_holes}
 use Rattle.words.proofs.row_holes.Given as goal
 
 -- Positions are written as those of byte 8 k, where word k begins.

@@ -1,9 +1,8 @@
 -- `words::tail_at` meets its contract: the bytes passed are joined.
-use Prim.Native.Nat.{suc, ◌+◌, ◌-◌, ◌*◌, ◌%◌, ◌^◌, ◌≤◌}
+use Prim.Native.Nat.{suc, ◌+◌, ◌*◌, ◌%◌, ◌^◌}
 use mathlib.Core.Path.{◌≡◌, refl, ◌∙◌}
 use native.Mathlib.Numerals.{add-one}
 use native.Mathlib.Omega.{arith}
-use borrow.Author.Rules.{rules}
 use Rattle.model.specs.Lists.{sum_to}
 use Rattle.words.specs.Words.{joined}
 use Rattle.words.proofs.Words.{Bytes, shl_byte, joined_fits}

@@ -1,6 +1,5 @@
 -- `words::word_at` meets its contract: two halves are eight joined bytes.
 use native.Mathlib.Omega.{arith}
-use borrow.Author.Rules.{rules}
 use Rattle.words.proofs.Words.{joined_join}
 use Rattle.words.proofs.word_at.Goals as goal
 
