@@ -3,7 +3,7 @@
 --     tried, tried_total           what the trial's two sums tell
 --     sum_change, sum_range        on a sound session their difference is the change, and in range
 --     decided_early, decided_late  the decision, before the trial and after it
-use Prim.Native.Nat.{ℕ, ◌+◌, ◌*◌}
+use Prim.Native.Nat.{ℕ, ◌*◌}
 use mathlib.Core.Path.{◌≡◌, sym, ap, ◌∙◌}
 use mathlib.Core.Bool.{Bool, true, false}
 use mathlib.Core.List.{List}

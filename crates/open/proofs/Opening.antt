@@ -11,7 +11,7 @@ use borrow.Author.Tests.{ltb-true}
 use Rattle.model.specs.declared.Settings.{Settings}
 use Rattle.model.specs.declared.Refusal.{Refusal}
 use Rattle.model.specs.declared.Refusal.TheVariants.{None}
-use Rattle.model.specs.Planes.{Pictures, Depths, Held, held, with_total}
+use Rattle.model.specs.Planes.{Pictures, Depths, Held, with_total}
 use Rattle.model.specs.Fresh.{fresh_view, fresh, fresh_total}
 use Rattle.model.specs.Refusals.{number_of, unless, words_ok, pictures_ok, open_number}
 use Rattle.model.specs.Promises.{EightBit, OpenPost}

@@ -1,6 +1,8 @@
 // The row printer of document 01: reads a row from standard input and prints what the left view shows of it.
 #![tactic(auto)]
 
-fn main() {
-    rowprint::run(0);
+use std::io;
+
+fn main(rt: HostRuntime) -> io::Result<()> {
+    rowprint::run(&mut rt.reader(), &mut io::writer(&rt))
 }

@@ -1,25 +1,32 @@
 // The row printer on many inputs: for each file that an argument names, the name and then what is printed for it.
 #![tactic(auto)]
 
-fn print_case(i: usize) {
-    let mut name = io::buffer();
-    let n = os::arg(i, &mut name);
-    let fd = os::open_read(&name[..n]);
-    if fd < 0 {
-        os::fail(&name[..n]);
-        return;
-    }
-    io::write_all(1, &name[..n]);
-    io::write_all(1, b":\n");
-    rowprint::run(fd);
-    libc::close(fd);
+use std::rt::Files;
+use std::{env, fs, io};
+
+// Names a file that cannot be opened on standard error, with the system's reason but not its number.
+fn say_unopened<R: Eprint + Alloc>(rt: &R, name: &str, error: &io::Error) -> io::Result<()> {
+    let message = format!(in rt.alloc(); "{error}")?;
+    let text = message.as_str();
+    let reason = text
+        .split_once(" (os error ")
+        .map_or(text, |(reason, _)| reason);
+    eprintln!(rt; "{name}: {reason}")
 }
 
-fn main() {
-    let count = os::arg_count();
-    let mut i: usize = 1;
-    while i < count {
-        print_case(i);
-        i += 1;
+fn print_case<R: Files + Print + Eprint + Alloc>(rt: &R, name: &str) -> io::Result<()> {
+    match fs::open(rt, name) {
+        Ok(mut file) => {
+            println!(rt; "{name}:")?;
+            rowprint::run(&mut file, &mut io::writer(rt))
+        }
+        Err(error) => say_unopened(rt, name, &error),
     }
+}
+
+fn main(rt: HostRuntime) -> io::Result<()> {
+    for name in env::args(&rt)?.skip(1) {
+        print_case(&rt, name.as_str())?;
+    }
+    Ok(())
 }

@@ -2,3 +2,4 @@
 pub mod Tables
 pub mod Shown
 pub mod Answers
+pub mod Runs

@@ -1,16 +1,19 @@
-// The row printer: what is printed for a text, and a run from a descriptor to standard output.
+// The row printer: what is printed for a text, and a run from a reader to a writer.
 #![tactic(auto)]
 
-ghost use Rattle.std.specs.Prelude.{◌≡◌, false, ◌+◌, ◌≤◌, ◌<◌, length, take};
-ghost use Rattle.io.specs.Counts.{IsPrefixLen};
+ghost use Rattle.std.specs.Prelude.{◌≡◌, false, ◌+◌, ◌≤◌, ◌<◌, length, take, IfOk, OnOk, OnErr};
+ghost use Rattle.std.specs.Io.KnownBytes.{Consumes, Appends, IsAtEnd};
 ghost use Rattle.model.specs.Row.{line};
 ghost use Rattle.model.specs.Views.{view_row};
 ghost use Rattle.rowtext.specs.Format.{row_text};
 ghost use Rattle.rowlines.specs.Printed.{printer_tear, printer_table, printed, Answers};
 ghost use Rattle.rowlines.specs.Steps.{Put, PrinterSettings, Shows};
+ghost use Rattle.rowprint.specs.Run.{AppendsPart, Prints, PrintsPart};
 
 use model::{Settings, Tear};
 use rowtext::Parsed;
+use std::io;
+use std::io::{Read, Write};
 
 // What the left view shows of a row: samples, packed marks and front depths.
 #[derive(Drop)]
@@ -107,7 +110,7 @@ fn put_drawing(out: &mut [u8], w: usize, texture: &[u16], depths: &[u8]) -> usiz
 
 // Writes what is printed for a text, and answers how many bytes that is.
 pub fn answer(text: &[u8], out: &mut [u8; 4096]) -> usize
-    ensures prefix_len { IsPrefixLen result out.new }
+    ensures prefix_len { (result ≤ length out.new) × (result ≡ length (take result out.new)) }
     ensures answers { Answers text.now (take result out.new) }
 {
     let reading = rowtext::read_row(text);
@@ -120,11 +123,135 @@ pub fn answer(text: &[u8], out: &mut [u8; 4096]) -> usize
     put_drawing(out, w, &texture[..w], &depths[..w])
 }
 
-// Reads a descriptor to its end and prints the answer. A text that is a row has at most 579 bytes, so one that fills the buffer is none.
-pub fn run(fd: i32) {
-    let mut text = io::buffer();
-    let n = io::read_full(fd, &mut text);
-    let mut out = io::buffer();
+// Reads until the buffer is full or the input ends, and answers how many bytes were read.
+fn read_full<R: Read>(reader: &mut R, buffer: &mut [u8]) -> io::Result<usize>
+    ensures within { IfOk result (λ n. n ≤ length buffer.new) }
+    ensures taken { IfOk result (λ n. Consumes (R.remaining reader.old) (R.remaining reader.new) (take n buffer.new)) }
+    ensures ended { IfOk result (λ n. n < length buffer.new → IsAtEnd (R.remaining reader.new)) }
+{
+    let mut done = 0;
+    while done < buffer.len() {
+        let n = reader.read(&mut buffer[done..])?;
+        if n == 0 {
+            break;
+        }
+        done += n;
+    }
+    Ok(done)
+}
+
+// Writes all of the bytes, or a beginning of them before the error.
+fn write_full<W: Write>(writer: &mut W, bytes: &[u8]) -> io::Result<()>
+    ensures ok { OnOk result (Appends (W.contents writer.old) (W.contents writer.new) bytes.now) }
+    ensures err { OnErr result (AppendsPart (W.contents writer.old) (W.contents writer.new) bytes.now) }
+{
+    let mut done = 0;
+    while done < bytes.len() {
+        let n = writer.write(&bytes[done..])?;
+        if n == 0 {
+            return Err(io::Error::from(io::ErrorKind::WriteZero));
+        }
+        done += n;
+    }
+    Ok(())
+}
+
+// Reads a text to its end and writes what is printed for it. A text that is a row has at most 579 bytes, so one that fills the buffer is none,
+// and no more of it is read. Before an error a beginning of the answer was written, or nothing.
+pub fn run<R: Read, W: Write>(reader: &mut R, writer: &mut W) -> io::Result<()>
+    ensures ok { OnOk result (Prints (R.remaining reader.old) (W.contents writer.old) (W.contents writer.new)) }
+    ensures err { OnErr result (PrintsPart (R.remaining reader.old) (W.contents writer.old) (W.contents writer.new)) }
+{
+    let mut text = [0u8; 4096];
+    let n = read_full(reader, &mut text)?;
+    let mut out = [0u8; 4096];
     let k = answer(&text[..n], &mut out);
-    io::write_all(1, &out[..k]);
+    write_full(writer, &out[..k])
+}
+
+#[cfg(test)]
+mod tests {
+    use super::*;
+    use std::test::Fail;
+
+    // Takes or gives two bytes a call, and fails after `calls` of them.
+    #[derive(Drop)]
+    struct Narrow {
+        calls: u8,
+        taken: Vec<u8>,
+    }
+
+    impl Narrow {
+        fn step(&mut self, most: usize) -> io::Result<usize>
+            ensures { IfOk result (λ n. n ≤ most) }
+        {
+            if self.calls == 0 {
+                return Err(io::Error::from(io::ErrorKind::BrokenPipe));
+            }
+            self.calls -= 1;
+            Ok(most.min(2))
+        }
+    }
+
+    impl Read for Narrow {
+        fn read(&mut self, buf: &mut [u8]) -> io::Result<usize> {
+            let n = self.step(buf.len())?;
+            buf[..n].fill(b'1');
+            Ok(n)
+        }
+    }
+
+    impl Write for Narrow {
+        fn write(&mut self, buf: &[u8]) -> io::Result<usize> {
+            let n = self.step(buf.len())?;
+            self.taken.extend_from_slice(&buf[..n])?;
+            Ok(n)
+        }
+
+        fn flush(&mut self) -> io::Result<()> {
+            Ok(())
+        }
+    }
+
+    #[test]
+    fn prints_a_row(rt: HostRuntime) -> Result<(), Fail> {
+        let mut out = Vec::new(rt.alloc());
+        run(&mut b"1\n50\n0\n".as_slice(), &mut out)?;
+        assert_eq!(rt; out.as_slice(), b"row 1\n0 50 0 0\n".as_slice());
+        Ok(())
+    }
+
+    #[test]
+    fn writes_in_parts(rt: HostRuntime) -> Result<(), Fail> {
+        let mut writer = Narrow {
+            calls: 5,
+            taken: Vec::new(rt.alloc()),
+        };
+        run(&mut b"".as_slice(), &mut writer)?;
+        assert_eq!(rt; writer.taken.as_slice(), b"bad input\n".as_slice());
+        Ok(())
+    }
+
+    #[test]
+    fn stops_where_a_write_fails(rt: HostRuntime) -> Result<(), Fail> {
+        let mut writer = Narrow {
+            calls: 2,
+            taken: Vec::new(rt.alloc()),
+        };
+        assert!(rt; run(&mut b"".as_slice(), &mut writer).is_err());
+        assert_eq!(rt; writer.taken.as_slice(), b"bad ".as_slice());
+        Ok(())
+    }
+
+    #[test]
+    fn writes_nothing_where_a_read_fails(rt: HostRuntime) -> Result<(), Fail> {
+        let mut reader = Narrow {
+            calls: 3,
+            taken: Vec::new(rt.alloc()),
+        };
+        let mut out = Vec::new(rt.alloc());
+        assert!(rt; run(&mut reader, &mut out).is_err());
+        assert_eq!(rt; out.len(), 0);
+        Ok(())
+    }
 }

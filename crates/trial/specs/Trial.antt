@@ -1,8 +1,7 @@
 -- What a candidate would change in a block of rows (document 01, "The span of an edit" and GET).
-use Rattle.std.specs.Prelude.{ℕ, ◌+◌, ◌-◌, ◌*◌, ◌<◌, ◌≤◌, ◌≡◌, List, length}
+use Rattle.std.specs.Prelude.{ℕ, ◌+◌, ◌*◌, ◌<◌, ◌≤◌, ◌≡◌, List, length}
 use Rattle.model.specs.declared.Block.{Block}
 use Rattle.model.specs.Lists.{row_of, sum_to}
-use Rattle.model.specs.Row.{width}
 use Rattle.model.specs.Marks.{mark_bytes}
 use Rattle.model.specs.Combined.{worst}
 use Rattle.model.specs.Span.{first_column}

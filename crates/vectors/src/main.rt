@@ -3,43 +3,34 @@
 #![tactic(auto)]
 
 use model::{Block, Candidate, Count, Refusal, Report, Settings, Tear};
-
-// Prints a text.
-fn print(text: &[u8]) {
-    io::write_all(1, text);
-}
-
-// Prints a word and a number.
-fn say(word: &[u8], n: u64) {
-    io::write_all(1, word);
-    io::print_decimal(1, n);
-}
+use std::io;
 
 // Prints a call and the number of its refusal, 0 where it is accepted.
-fn say_refusal(call: &[u8], refusal: Refusal) {
-    say(call, model::number(refusal) as u64);
+fn say_refusal(rt: &impl Print, call: &str, refusal: Refusal) -> io::Result<()> {
+    let number = model::number(refusal);
+    print!(rt; "{call}{number}")
 }
 
 // Prints what a call that has a total answered.
-fn say_reply(call: &[u8], refusal: Refusal, total: u64) {
-    say_refusal(call, refusal);
-    say(b" total ", total);
+fn say_reply(rt: &impl Print, call: &str, refusal: Refusal, total: u64) -> io::Result<()> {
+    say_refusal(rt, call, refusal)?;
+    print!(rt; " total {total}")
 }
 
 // Prints what CHECK reports.
-fn say_report(report: Report) {
+fn say_report(rt: &impl Print, report: Report) -> io::Result<()> {
     match report {
-        Report::Refused(refusal) => say_refusal(b", check ", refusal),
-        Report::Sound => print(b", check sound"),
-        _ => print(b", check not sound"),
+        Report::Refused(refusal) => say_refusal(rt, ", check ", refusal),
+        Report::Sound => print!(rt; ", check sound"),
+        _ => print!(rt; ", check not sound"),
     }
 }
 
 // Prints what HOLES counted.
-fn say_count(answer: Count) {
+fn say_count(rt: &impl Print, answer: Count) -> io::Result<()> {
     match answer {
-        Count::Refused(refusal) => say_refusal(b", holes refused ", refusal),
-        Count::Holes(count) => say(b", holes ", count),
+        Count::Refused(refusal) => say_refusal(rt, ", holes refused ", refusal),
+        Count::Holes(count) => print!(rt; ", holes {count}"),
     }
 }
 
@@ -55,62 +46,64 @@ fn column() -> Block {
 
 // OPEN. This and the next calls are over arrays: of an array that a call wrote, the length is to be proved where it is lent as a slice.
 fn opened(
+    rt: &impl Print,
     given: Settings,
     row: &[u16],
-    leftDepths: &[u8; 4],
-    rightDepths: &[u8; 4],
-    leftSamples: &mut [u16; 4],
-    leftFronts: &mut [u8; 4],
-    leftLimits: &mut [i16; 4],
-    leftMarks: &mut [u8; 1],
-    rightSamples: &mut [u16; 4],
-    rightFronts: &mut [u8; 4],
-    rightLimits: &mut [i16; 4],
-    rightMarks: &mut [u8; 1],
+    left_depths: &[u8; 4],
+    right_depths: &[u8; 4],
+    left_samples: &mut [u16; 4],
+    left_fronts: &mut [u8; 4],
+    left_limits: &mut [i16; 4],
+    left_marks: &mut [u8; 1],
+    right_samples: &mut [u16; 4],
+    right_fronts: &mut [u8; 4],
+    right_limits: &mut [i16; 4],
+    right_marks: &mut [u8; 1],
     combined: &mut [u16; 4],
     journal: &mut [u32; 8],
-) -> Settings {
+) -> io::Result<Settings> {
     let answer = open::open(
         given,
         row,
         row,
         row,
-        leftDepths,
-        rightDepths,
-        leftSamples,
-        leftFronts,
-        leftLimits,
-        leftMarks,
-        rightSamples,
-        rightFronts,
-        rightLimits,
-        rightMarks,
+        left_depths,
+        right_depths,
+        left_samples,
+        left_fronts,
+        left_limits,
+        left_marks,
+        right_samples,
+        right_fronts,
+        right_limits,
+        right_marks,
         combined,
         journal,
     );
     let next = answer.settings;
     let refusal = answer.refusal;
-    say_reply(b", open ", refusal, next.total);
-    next
+    say_reply(rt, ", open ", refusal, next.total)?;
+    Ok(next)
 }
 
 // GET of depth 4, with the total that it leads to.
 fn tried(
+    rt: &impl Print,
     given: Settings,
     row: &[u16],
-    leftDepths: &[u8; 4],
-    rightDepths: &[u8; 4],
-    leftSamples: &[u16; 4],
-    leftFronts: &[u8; 4],
-    leftLimits: &[i16; 4],
-    leftMarks: &[u8; 1],
-    rightSamples: &[u16; 4],
-    rightFronts: &[u8; 4],
-    rightLimits: &[i16; 4],
-    rightMarks: &[u8; 1],
+    left_depths: &[u8; 4],
+    right_depths: &[u8; 4],
+    left_samples: &[u16; 4],
+    left_fronts: &[u8; 4],
+    left_limits: &[i16; 4],
+    left_marks: &[u8; 1],
+    right_samples: &[u16; 4],
+    right_fronts: &[u8; 4],
+    right_limits: &[i16; 4],
+    right_marks: &[u8; 1],
     combined: &[u16; 4],
     none: &[u8],
-) {
+) -> io::Result<()> {
     let tear = given.tear;
     let answer = decide::decide(
         given.w,
@@ -124,16 +117,16 @@ fn tried(
         row,
         row,
         row,
-        leftDepths,
-        rightDepths,
-        leftSamples,
-        leftFronts,
-        leftLimits,
-        leftMarks,
-        rightSamples,
-        rightFronts,
-        rightLimits,
-        rightMarks,
+        left_depths,
+        right_depths,
+        left_samples,
+        left_fronts,
+        left_limits,
+        left_marks,
+        right_samples,
+        right_fronts,
+        right_limits,
+        right_marks,
         combined,
         0,
         column(),
@@ -141,42 +134,43 @@ fn tried(
         none,
     );
     let refusal = answer.refusal;
-    say_reply(b", get ", refusal, answer.total);
+    say_reply(rt, ", get ", refusal, answer.total)
 }
 
 // SET of depth 5.
 fn written(
+    rt: &impl Print,
     given: Settings,
     row: &[u16],
-    leftDepths: &mut [u8; 4],
-    rightDepths: &mut [u8; 4],
-    leftSamples: &mut [u16; 4],
-    leftFronts: &mut [u8; 4],
-    leftLimits: &mut [i16; 4],
-    leftMarks: &mut [u8; 1],
-    rightSamples: &mut [u16; 4],
-    rightFronts: &mut [u8; 4],
-    rightLimits: &mut [i16; 4],
-    rightMarks: &mut [u8; 1],
+    left_depths: &mut [u8; 4],
+    right_depths: &mut [u8; 4],
+    left_samples: &mut [u16; 4],
+    left_fronts: &mut [u8; 4],
+    left_limits: &mut [i16; 4],
+    left_marks: &mut [u8; 1],
+    right_samples: &mut [u16; 4],
+    right_fronts: &mut [u8; 4],
+    right_limits: &mut [i16; 4],
+    right_marks: &mut [u8; 1],
     combined: &mut [u16; 4],
     journal: &mut [u32; 8],
     none: &[u8],
-) -> Settings {
+) -> io::Result<Settings> {
     let answer = set::set(
         given,
         row,
         row,
         row,
-        leftDepths,
-        rightDepths,
-        leftSamples,
-        leftFronts,
-        leftLimits,
-        leftMarks,
-        rightSamples,
-        rightFronts,
-        rightLimits,
-        rightMarks,
+        left_depths,
+        right_depths,
+        left_samples,
+        left_fronts,
+        left_limits,
+        left_marks,
+        right_samples,
+        right_fronts,
+        right_limits,
+        right_marks,
         combined,
         journal,
         0,
@@ -186,261 +180,276 @@ fn written(
     );
     let next = answer.settings;
     let refusal = answer.refusal;
-    say_reply(b", set ", refusal, next.total);
-    next
+    say_reply(rt, ", set ", refusal, next.total)?;
+    Ok(next)
 }
 
 // CHECK, and HOLES of the left view.
 fn checked(
+    rt: &impl Print,
     given: Settings,
     row: &[u16],
-    leftDepths: &[u8; 4],
-    rightDepths: &[u8; 4],
-    leftSamples: &[u16; 4],
-    leftFronts: &[u8; 4],
-    leftLimits: &[i16; 4],
-    leftMarks: &[u8; 1],
-    rightSamples: &[u16; 4],
-    rightFronts: &[u8; 4],
-    rightLimits: &[i16; 4],
-    rightMarks: &[u8; 1],
+    left_depths: &[u8; 4],
+    right_depths: &[u8; 4],
+    left_samples: &[u16; 4],
+    left_fronts: &[u8; 4],
+    left_limits: &[i16; 4],
+    left_marks: &[u8; 1],
+    right_samples: &[u16; 4],
+    right_fronts: &[u8; 4],
+    right_limits: &[i16; 4],
+    right_marks: &[u8; 1],
     combined: &[u16; 4],
-) {
-    say_report(checks::check(
+) -> io::Result<()> {
+    let report = checks::check(
         given,
         row,
         row,
         row,
-        leftDepths,
-        rightDepths,
-        leftSamples,
-        leftFronts,
-        leftLimits,
-        leftMarks,
-        rightSamples,
-        rightFronts,
-        rightLimits,
-        rightMarks,
+        left_depths,
+        right_depths,
+        left_samples,
+        left_fronts,
+        left_limits,
+        left_marks,
+        right_samples,
+        right_fronts,
+        right_limits,
+        right_marks,
         combined,
-    ));
-    say_count(holes::holes(given, 0, leftMarks, rightMarks));
+    );
+    say_report(rt, report)?;
+    say_count(rt, holes::holes(given, 0, left_marks, right_marks))
 }
 
 // TAKE BACK.
 fn taken(
+    rt: &impl Print,
     given: Settings,
     row: &[u16],
-    leftDepths: &mut [u8; 4],
-    rightDepths: &mut [u8; 4],
-    leftSamples: &mut [u16; 4],
-    leftFronts: &mut [u8; 4],
-    leftLimits: &mut [i16; 4],
-    leftMarks: &mut [u8; 1],
-    rightSamples: &mut [u16; 4],
-    rightFronts: &mut [u8; 4],
-    rightLimits: &mut [i16; 4],
-    rightMarks: &mut [u8; 1],
+    left_depths: &mut [u8; 4],
+    right_depths: &mut [u8; 4],
+    left_samples: &mut [u16; 4],
+    left_fronts: &mut [u8; 4],
+    left_limits: &mut [i16; 4],
+    left_marks: &mut [u8; 1],
+    right_samples: &mut [u16; 4],
+    right_fronts: &mut [u8; 4],
+    right_limits: &mut [i16; 4],
+    right_marks: &mut [u8; 1],
     combined: &mut [u16; 4],
     journal: &mut [u32; 8],
-) -> Settings {
+) -> io::Result<Settings> {
     let answer = take_back::take_back(
         given,
         row,
         row,
         row,
-        leftDepths,
-        rightDepths,
-        leftSamples,
-        leftFronts,
-        leftLimits,
-        leftMarks,
-        rightSamples,
-        rightFronts,
-        rightLimits,
-        rightMarks,
+        left_depths,
+        right_depths,
+        left_samples,
+        left_fronts,
+        left_limits,
+        left_marks,
+        right_samples,
+        right_fronts,
+        right_limits,
+        right_marks,
         combined,
         journal,
     );
     let next = answer.settings;
     let refusal = answer.refusal;
-    say_reply(b", take back ", refusal, next.total);
-    next
+    say_reply(rt, ", take back ", refusal, next.total)?;
+    Ok(next)
 }
 
 // MOVE to the same seat with another reference.
 fn moved(
+    rt: &impl Print,
     given: Settings,
     row: &[u16],
     other: &[u16],
-    leftDepths: &[u8; 4],
-    rightDepths: &[u8; 4],
-    leftSamples: &mut [u16; 4],
-    leftFronts: &mut [u8; 4],
-    leftLimits: &mut [i16; 4],
-    leftMarks: &mut [u8; 1],
-    rightSamples: &mut [u16; 4],
-    rightFronts: &mut [u8; 4],
-    rightLimits: &mut [i16; 4],
-    rightMarks: &mut [u8; 1],
+    left_depths: &[u8; 4],
+    right_depths: &[u8; 4],
+    left_samples: &mut [u16; 4],
+    left_fronts: &mut [u8; 4],
+    left_limits: &mut [i16; 4],
+    left_marks: &mut [u8; 1],
+    right_samples: &mut [u16; 4],
+    right_fronts: &mut [u8; 4],
+    right_limits: &mut [i16; 4],
+    right_marks: &mut [u8; 1],
     combined: &mut [u16; 4],
     journal: &mut [u32; 8],
-) -> Settings {
+) -> io::Result<Settings> {
     let answer = move_seat::move_seat(
         given,
         given,
         row,
         row,
         other,
-        leftDepths,
-        rightDepths,
-        leftSamples,
-        leftFronts,
-        leftLimits,
-        leftMarks,
-        rightSamples,
-        rightFronts,
-        rightLimits,
-        rightMarks,
+        left_depths,
+        right_depths,
+        left_samples,
+        left_fronts,
+        left_limits,
+        left_marks,
+        right_samples,
+        right_fronts,
+        right_limits,
+        right_marks,
         combined,
         journal,
     );
     let next = answer.settings;
     let refusal = answer.refusal;
-    say_reply(b", move ", refusal, next.total);
-    next
+    say_reply(rt, ", move ", refusal, next.total)?;
+    Ok(next)
 }
 
 // A session of one row of four columns with depths of 0. Each call is a function of its own: in one function their proof is several times as long.
-fn session(given: Settings, row: &[u16], other: &[u16], none: &[u8]) {
-    let mut leftDepths = [0u8; 4];
-    let mut rightDepths = [0u8; 4];
-    let mut leftSamples = [0u16; 4];
-    let mut leftFronts = [0u8; 4];
-    let mut leftLimits = [0i16; 4];
-    let mut leftMarks = [0u8; 1];
-    let mut rightSamples = [0u16; 4];
-    let mut rightFronts = [0u8; 4];
-    let mut rightLimits = [0i16; 4];
-    let mut rightMarks = [0u8; 1];
+fn session(
+    rt: &impl Print,
+    given: Settings,
+    row: &[u16],
+    other: &[u16],
+    none: &[u8],
+) -> io::Result<()> {
+    let mut left_depths = [0u8; 4];
+    let mut right_depths = [0u8; 4];
+    let mut left_samples = [0u16; 4];
+    let mut left_fronts = [0u8; 4];
+    let mut left_limits = [0i16; 4];
+    let mut left_marks = [0u8; 1];
+    let mut right_samples = [0u16; 4];
+    let mut right_fronts = [0u8; 4];
+    let mut right_limits = [0i16; 4];
+    let mut right_marks = [0u8; 1];
     let mut combined = [0u16; 4];
     let mut journal = [0u32; 8];
     let first = opened(
+        rt,
         given,
         row,
-        &leftDepths,
-        &rightDepths,
-        &mut leftSamples,
-        &mut leftFronts,
-        &mut leftLimits,
-        &mut leftMarks,
-        &mut rightSamples,
-        &mut rightFronts,
-        &mut rightLimits,
-        &mut rightMarks,
+        &left_depths,
+        &right_depths,
+        &mut left_samples,
+        &mut left_fronts,
+        &mut left_limits,
+        &mut left_marks,
+        &mut right_samples,
+        &mut right_fronts,
+        &mut right_limits,
+        &mut right_marks,
         &mut combined,
         &mut journal,
-    );
+    )?;
     tried(
+        rt,
         first,
         row,
-        &leftDepths,
-        &rightDepths,
-        &leftSamples,
-        &leftFronts,
-        &leftLimits,
-        &leftMarks,
-        &rightSamples,
-        &rightFronts,
-        &rightLimits,
-        &rightMarks,
+        &left_depths,
+        &right_depths,
+        &left_samples,
+        &left_fronts,
+        &left_limits,
+        &left_marks,
+        &right_samples,
+        &right_fronts,
+        &right_limits,
+        &right_marks,
         &combined,
         none,
-    );
+    )?;
     let second = written(
+        rt,
         first,
         row,
-        &mut leftDepths,
-        &mut rightDepths,
-        &mut leftSamples,
-        &mut leftFronts,
-        &mut leftLimits,
-        &mut leftMarks,
-        &mut rightSamples,
-        &mut rightFronts,
-        &mut rightLimits,
-        &mut rightMarks,
+        &mut left_depths,
+        &mut right_depths,
+        &mut left_samples,
+        &mut left_fronts,
+        &mut left_limits,
+        &mut left_marks,
+        &mut right_samples,
+        &mut right_fronts,
+        &mut right_limits,
+        &mut right_marks,
         &mut combined,
         &mut journal,
         none,
-    );
+    )?;
     checked(
+        rt,
         second,
         row,
-        &leftDepths,
-        &rightDepths,
-        &leftSamples,
-        &leftFronts,
-        &leftLimits,
-        &leftMarks,
-        &rightSamples,
-        &rightFronts,
-        &rightLimits,
-        &rightMarks,
+        &left_depths,
+        &right_depths,
+        &left_samples,
+        &left_fronts,
+        &left_limits,
+        &left_marks,
+        &right_samples,
+        &right_fronts,
+        &right_limits,
+        &right_marks,
         &combined,
-    );
+    )?;
     let third = taken(
+        rt,
         second,
         row,
-        &mut leftDepths,
-        &mut rightDepths,
-        &mut leftSamples,
-        &mut leftFronts,
-        &mut leftLimits,
-        &mut leftMarks,
-        &mut rightSamples,
-        &mut rightFronts,
-        &mut rightLimits,
-        &mut rightMarks,
+        &mut left_depths,
+        &mut right_depths,
+        &mut left_samples,
+        &mut left_fronts,
+        &mut left_limits,
+        &mut left_marks,
+        &mut right_samples,
+        &mut right_fronts,
+        &mut right_limits,
+        &mut right_marks,
         &mut combined,
         &mut journal,
-    );
+    )?;
     moved(
+        rt,
         third,
         row,
         other,
-        &leftDepths,
-        &rightDepths,
-        &mut leftSamples,
-        &mut leftFronts,
-        &mut leftLimits,
-        &mut leftMarks,
-        &mut rightSamples,
-        &mut rightFronts,
-        &mut rightLimits,
-        &mut rightMarks,
+        &left_depths,
+        &right_depths,
+        &mut left_samples,
+        &mut left_fronts,
+        &mut left_limits,
+        &mut left_marks,
+        &mut right_samples,
+        &mut right_fronts,
+        &mut right_limits,
+        &mut right_marks,
         &mut combined,
         &mut journal,
-    );
+    )?;
+    Ok(())
 }
 
 // RENDER of row g of document 01.
-fn drawn(given: Settings, row: &[u16]) {
+fn drawn(rt: &impl Print, given: Settings, row: &[u16]) -> io::Result<()> {
     let depths = [0u8, 0, 5, 0];
     let mut samples = [0u16; 4];
     let mut marks = [0u8; 1];
     let mut fronts = [0u8; 4];
-    say_refusal(
-        b": render ",
-        render::render(
-            given,
-            0,
-            row,
-            &depths,
-            &mut samples,
-            &mut marks,
-            &mut fronts,
-        ),
+    let refusal = render::render(
+        given,
+        0,
+        row,
+        &depths,
+        &mut samples,
+        &mut marks,
+        &mut fronts,
     );
+    say_refusal(rt, ": render ", refusal)
 }
 
 // Settings with the tables that document 01's session reads, whose last entry is given, and a total that OPEN ignores.
@@ -464,65 +473,74 @@ fn settings(w: u32, h: u32, entry: u16, share: u8, gap: u8, distance: u8) -> Set
     }
 }
 
-// Prints a number of a case.
-fn say_entry(n: u64) {
-    say(b" ", n);
-}
-
 // Prints the numbers of a case.
-fn say_case(w: u32, h: u32, entry: u16, share: u8, gap: u8, distance: u8, sample: u16) {
-    say_entry(w as u64);
-    say_entry(h as u64);
-    say_entry(entry as u64);
-    say_entry(share as u64);
-    say_entry(gap as u64);
-    say_entry(distance as u64);
-    say_entry(sample as u64);
+fn say_case(
+    rt: &impl Print,
+    w: u32,
+    h: u32,
+    entry: u16,
+    share: u8,
+    gap: u8,
+    distance: u8,
+    sample: u16,
+) -> io::Result<()> {
+    print!(rt; " {w} {h} {entry} {share} {gap} {distance} {sample}")
 }
 
 // RENDER and a session over the pictures of document 01, with MOVE to a reference of zeros and a sample.
-fn played(given: Settings, sample: u16) {
+fn played(rt: &impl Print, given: Settings, sample: u16) -> io::Result<()> {
     let row = [10u16, 20, 30, 40];
     let other = [0, 0, 0, sample];
-    drawn(given, &row);
-    session(given, &row, &other, b"");
-    print(b"\n");
+    drawn(rt, given, &row)?;
+    session(rt, given, &row, &other, b"")?;
+    println!(rt)
 }
 
 // A case over planes of four columns and one row.
-fn case(w: u32, h: u32, entry: u16, share: u8, gap: u8, distance: u8, sample: u16) {
-    say_case(w, h, entry, share, gap, distance, sample);
-    played(settings(w, h, entry, share, gap, distance), sample);
+fn case(
+    rt: &impl Print,
+    w: u32,
+    h: u32,
+    entry: u16,
+    share: u8,
+    gap: u8,
+    distance: u8,
+    sample: u16,
+) -> io::Result<()> {
+    say_case(rt, w, h, entry, share, gap, distance, sample)?;
+    played(rt, settings(w, h, entry, share, gap, distance), sample)
 }
 
 // HOLES of 4,096 bytes of marks, all of them 1.
-fn large(w: u32, h: u32) {
+fn large(rt: &impl Print, w: u32, h: u32) -> io::Result<()> {
     let marks = [255u8; 4096];
-    say_entry(w as u64);
-    say_entry(h as u64);
-    say_count(holes::holes(settings(w, h, 255, 0, 8, 1), 0, &marks, &marks));
-    print(b"\n");
+    print!(rt; " {w} {h}")?;
+    say_count(
+        rt,
+        holes::holes(settings(w, h, 255, 0, 8, 1), 0, &marks, &marks),
+    )?;
+    println!(rt)
 }
 
-fn main() {
-    print(b" w h entry share gap distance sample\n");
-    case(4, 1, 255, 0, 8, 1, 40);
-    case(0, 1, 255, 0, 8, 1, 40);
-    large(4096, 8);
-    case(4097, 1, 255, 0, 8, 1, 40);
-    case(4, 0, 255, 0, 8, 1, 40);
-    large(8, 4096);
-    case(4, 4097, 255, 0, 8, 1, 40);
-    case(4, 1, 1023, 0, 8, 1, 40);
-    case(4, 1, 1024, 0, 8, 1, 40);
-    case(4, 1, 255, 64, 8, 1, 40);
-    case(4, 1, 255, 65, 8, 1, 40);
-    case(4, 1, 255, 0, 3, 1, 40);
-    case(4, 1, 255, 0, 4, 1, 40);
-    case(4, 1, 255, 0, 64, 1, 40);
-    case(4, 1, 255, 0, 65, 1, 40);
-    case(4, 1, 255, 0, 8, 3, 40);
-    case(4, 1, 255, 0, 8, 4, 40);
-    case(4, 1, 255, 0, 8, 1, 1023);
-    case(4, 1, 255, 0, 8, 1, 1024);
+fn main(rt: HostRuntime) -> io::Result<()> {
+    println!(rt; " w h entry share gap distance sample")?;
+    case(&rt, 4, 1, 255, 0, 8, 1, 40)?;
+    case(&rt, 0, 1, 255, 0, 8, 1, 40)?;
+    large(&rt, 4096, 8)?;
+    case(&rt, 4097, 1, 255, 0, 8, 1, 40)?;
+    case(&rt, 4, 0, 255, 0, 8, 1, 40)?;
+    large(&rt, 8, 4096)?;
+    case(&rt, 4, 4097, 255, 0, 8, 1, 40)?;
+    case(&rt, 4, 1, 1023, 0, 8, 1, 40)?;
+    case(&rt, 4, 1, 1024, 0, 8, 1, 40)?;
+    case(&rt, 4, 1, 255, 64, 8, 1, 40)?;
+    case(&rt, 4, 1, 255, 65, 8, 1, 40)?;
+    case(&rt, 4, 1, 255, 0, 3, 1, 40)?;
+    case(&rt, 4, 1, 255, 0, 4, 1, 40)?;
+    case(&rt, 4, 1, 255, 0, 64, 1, 40)?;
+    case(&rt, 4, 1, 255, 0, 65, 1, 40)?;
+    case(&rt, 4, 1, 255, 0, 8, 3, 40)?;
+    case(&rt, 4, 1, 255, 0, 8, 4, 40)?;
+    case(&rt, 4, 1, 255, 0, 8, 1, 1023)?;
+    case(&rt, 4, 1, 255, 0, 8, 1, 1024)
 }

@@ -2,7 +2,6 @@
 use mathlib.Core.Path.{sym, ◌∙◌}
 use native.Mathlib.Omega.{arith}
 use Rattle.checks.proofs.Ways.{refused, accepted, reported}
-use borrow.Author.Rules.{rules}
 use Rattle.checks.proofs.check.Goals as goal
 
 pub returns-then-number-ne0 : goal.returns-then-number-ne0

@@ -27,10 +27,13 @@ offset_bounds-combined-first c =
 
 pub blend_part-requires : goal.blend_part-requires
 blend_part-requires c =
-    let lp = part_length c.args.combined.now (c.args.y * c.args.w + c.args.from) (c.args.to - c.args.from) (within (goal.at.blend_part-requires c).Start) in record { share_bound = c.requires.share_bound.0; reaches = (
+    let lp = part_length c.args.combined.now (c.args.y * c.args.w + c.args.from) (c.args.to - c.args.from) (within (goal.at.blend_part-requires c).Start) in record {
+      share_bound = c.requires.share_bound.0;
+      reaches = (
         rows_reach c.args.w c.args.y c.args.from c.args.to _ c.args.samples.now c.args.fronts.now c.args.marks.now c.requires.share_bound.1.1.0 c.requires.share_bound.1.1.1 lp c.requires.view_in.0,
         rows_reach c.args.w c.args.y c.args.from c.args.to _ c.args.samples2.now c.args.fronts2.now c.args.marks2.now c.requires.share_bound.1.1.0 c.requires.share_bound.1.1.1 lp c.requires.view_in.1,
-      ) }
+      );
+    }
 
 pub shape_of-combined : goal.shape_of-combined
 shape_of-combined c =

@@ -1,5 +1,4 @@
 -- `combine::set_row` meets its contract.
-use borrow.Author.Rules.{rules}
 use Rattle.model.specs.Planes.{view}
 use Rattle.combine.proofs.Combined.{view_kept, row_set}
 use Rattle.combine.proofs.set_row.Goals as goal

@@ -1,15 +1,11 @@
 -- `combine::set_rows` meets its contract: the rows passed are set, and the room is ready for the next.
-use Prim.Native.Nat.{◌+◌, ◌-◌, ◌<◌}
+use Prim.Native.Nat.{◌+◌, ◌<◌}
 use mathlib.Core.Path.{◌≡◌, sym, ◌∙◌}
 use native.Mathlib.Omega.{arith}
-use lib.ListN.{length}
-use Rattle.model.specs.Planes.{view}
-use Rattle.model.specs.Candidates.{filled}
 use Rattle.planes.specs.Parts.{block_of}
-use Rattle.fill.specs.Rows.{room_of, Started}
 use Rattle.commit.proofs.Planes.{sized_row}
 use Rattle.combine.proofs.Filled.{one_fits, one_there, row_here, row_chosen}
-use Rattle.combine.proofs.Rows.{Through, through_none, through_next, through_all, row_wide, other_row, resized, other_resized}
+use Rattle.combine.proofs.Rows.{through_none, through_next, through_all, row_wide, other_row, resized, other_resized}
 use Rattle.combine.proofs.set_rows.Goals as goal
 
 pub start-requires : goal.start-requires

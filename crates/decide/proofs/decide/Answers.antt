@@ -8,7 +8,6 @@ use Rattle.model.specs.Refusals.{number_of, early_number}
 use Rattle.validate.proofs.Numbers.{steps_number, early_number_lem}
 use Rattle.decide.specs.Decided.{settings_of, held_of}
 use Rattle.decide.proofs.Ways.{passed, tried_total, decided_early, decided_late}
-use borrow.Author.Rules.{rules}
 use Rattle.decide.proofs.decide.Goals as goal
 use Rattle.decide.proofs.decide.Goals.{After-with_candidate-first, Start}
 

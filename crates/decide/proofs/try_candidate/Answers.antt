@@ -1,9 +1,6 @@
 -- a candidate whose rows are lent is a full block, and its depths are the bytes
-use mathlib.Core.Path.{◌≡◌, sym, ◌∙◌}
-use mathlib.Core.Bool.{true}
-use Rattle.fill.specs.Rows.{is_lent}
+use mathlib.Core.Path.{sym, ◌∙◌}
 use Rattle.fill.proofs.Rows.{lent_filled, lent_full}
-use borrow.Author.Rules.{rules}
 use Rattle.decide.proofs.try_candidate.Goals as goal
 
 pub try_lent-requires : goal.try_lent-requires

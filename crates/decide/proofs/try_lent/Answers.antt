@@ -3,7 +3,6 @@ use mathlib.Core.Path.{sym, ◌∙◌}
 use Rattle.model.specs.declared.Candidate.TheVariants.{Full}
 use Rattle.model.specs.Candidates.{filled}
 use Rattle.decide.proofs.Ways.{passed, tried}
-use borrow.Author.Rules.{rules}
 use Rattle.decide.proofs.try_lent.Goals as goal
 
 pub trial_block-requires : goal.trial_block-requires

@@ -1,7 +1,6 @@
 use mathlib.Core.Bool.{true, false}
 use mathlib.Core.Path.{sym, ◌∙◌}
 use Rattle.decide.proofs.Ways.{passed, candidate_taken, tried}
-use borrow.Author.Rules.{rules}
 use Rattle.decide.proofs.try_made.Goals as goal
 
 pub trial_made-requires : goal.trial_made-requires

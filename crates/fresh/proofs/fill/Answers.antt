@@ -1,16 +1,19 @@
 -- `fresh::fill` meets its contract.
 use mathlib.Core.Path.{◌∙◌}
-use borrow.Author.Rules.{rules}
 use Rattle.fresh.proofs.fill.Goals as goal
 
 pub draw_view-requires-2 : goal.draw_view-requires-2
 draw_view-requires-2 c = record { table = (c.requires.table.1.0, (c.requires.w_nonzero.0, c.requires.w_nonzero.1.0)); planes_of = c.requires.planes_of_2 }
 
 pub combine_picture-requires : goal.combine_picture-requires
-combine_picture-requires c = record { squares = (c.squares-squares.ensures, (c.requires.table.1.1, c.requires.w_nonzero.1)); side_of = (
-          record { samples = c.draw_view.auto.samples ∙ c.requires.planes_of.samples_of; fronts = c.draw_view.auto.fronts ∙ c.requires.planes_of.fronts_of; marks = c.draw_view.auto.marks ∙ c.requires.planes_of.marks_there },
-          record { samples = c.draw_view-2.auto.samples ∙ c.requires.planes_of_2.samples_of; fronts = c.draw_view-2.auto.fronts ∙ c.requires.planes_of_2.fronts_of; marks = c.draw_view-2.auto.marks ∙ c.requires.planes_of_2.marks_there },
-        ); reference_len = c.requires.reference_len }
+combine_picture-requires c = record {
+  squares = (c.squares-squares.ensures, (c.requires.table.1.1, c.requires.w_nonzero.1));
+  side_of = (
+    record { samples = c.draw_view.auto.samples ∙ c.requires.planes_of.samples_of; fronts = c.draw_view.auto.fronts ∙ c.requires.planes_of.fronts_of; marks = c.draw_view.auto.marks ∙ c.requires.planes_of.marks_there },
+    record { samples = c.draw_view-2.auto.samples ∙ c.requires.planes_of_2.samples_of; fronts = c.draw_view-2.auto.fronts ∙ c.requires.planes_of_2.fronts_of; marks = c.draw_view-2.auto.marks ∙ c.requires.planes_of_2.marks_there },
+  );
+  reference_len = c.requires.reference_len;
+}
 
 pub shape_of-leftSamples : goal.shape_of-leftSamples
 shape_of-leftSamples c = c.draw_view.auto.samples

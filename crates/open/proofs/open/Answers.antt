@@ -7,7 +7,6 @@ use Rattle.model.specs.Refusals.{words_ok, unless, pictures_ok, open_number}
 use Rattle.model.proofs.Refusals.{common_facts, common_passed, table_yes}
 use Rattle.validate.proofs.Numbers.{common_number_lem}
 use Rattle.open.proofs.Opening.{planes_left, planes_right, common_kept, words_some, refused, opened}
-use borrow.Author.Rules.{rules}
 use Rattle.open.proofs.open.Goals as goal
 
 pub returns-then-number-ne0 : goal.returns-then-number-ne0

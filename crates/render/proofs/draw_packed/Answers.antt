@@ -5,7 +5,6 @@ use Rattle.model.specs.Row.{line}
 use Rattle.model.specs.Views.{view_row}
 use Rattle.model.specs.Marks.{mark_bytes}
 use Rattle.render.proofs.Strips.{part_length, part_flags, packed}
-use borrow.Author.Rules.{rules}
 use Rattle.render.proofs.draw_packed.Goals as goal
 
 pub slice_bounds-draw_view_row-end-2 : goal.slice_bounds-draw_view_row-end-2

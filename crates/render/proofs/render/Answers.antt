@@ -2,7 +2,6 @@ use borrow.Author.Tests.{eq-eqb, ne_eqb}
 use mathlib.Core.Bool.{true, false}
 use Rattle.model.specs.Planes.{strip}
 use Rattle.render.proofs.Strips.{accepted_at, refused, ready_strip, samples_fit, marks_fit, fronts_fit, drawn}
-use borrow.Author.Rules.{rules}
 use Rattle.render.proofs.render.Goals as goal
 
 pub returns-then-number-ne0 : goal.returns-then-number-ne0

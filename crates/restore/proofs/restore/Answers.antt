@@ -3,7 +3,6 @@ use mathlib.Core.Path.{refl, sym, ◌∙◌}
 use native.Mathlib.Omega.{arith}
 use Rattle.trial.proofs.Blocks.{block_small}
 use Rattle.settled.proofs.Settling.{set_requires}
-use borrow.Author.Rules.{rules}
 use Rattle.restore.proofs.restore.Goals as goal
 
 pub trial_saved-sums-requires : goal.trial_saved-sums-requires

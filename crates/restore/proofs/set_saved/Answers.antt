@@ -1,12 +1,8 @@
 -- `restore::set_saved` meets its contract: the rows passed are set, each part of them as a block of its own.
-use Prim.Native.Nat.{◌-◌, ◌≤◌}
 use mathlib.Core.Path.{◌≡◌, sym, ◌∙◌}
 use native.Mathlib.Omega.{arith}
-use lib.ListN.{length}
 use lib.Seq.{length-take-le}
-use Rattle.model.specs.Planes.{view}
-use Rattle.planes.specs.Parts.{block_of}
-use Rattle.combine.proofs.Rows.{Through, through_none, through_all}
+use Rattle.combine.proofs.Rows.{through_none, through_all}
 use Rattle.restore.proofs.Parts.{narrow_requires}
 use Rattle.restore.proofs.Rows.{part_requires, through_saved}
 use Rattle.restore.proofs.set_saved.Goals as goal

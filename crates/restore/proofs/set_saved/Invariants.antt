@@ -1,13 +1,9 @@
 use Prim.Native.Nat.{◌-◌, ◌≤◌}
-use mathlib.Core.Path.{◌≡◌, sym, ◌∙◌}
-use native.Mathlib.Omega.{arith}
+use mathlib.Core.Path.{◌≡◌}
 use lib.ListN.{length}
-use lib.Seq.{length-take-le}
 use Rattle.model.specs.Planes.{view}
 use Rattle.planes.specs.Parts.{block_of}
-use Rattle.combine.proofs.Rows.{Through, through_none, through_all}
-use Rattle.restore.proofs.Parts.{narrow_requires}
-use Rattle.restore.proofs.Rows.{part_requires, through_saved}
+use Rattle.combine.proofs.Rows.{Through}
 use Rattle.restore.proofs.set_saved.Given as goal
 
 abbrev pub invariant-loop-done : goal.invariant-loop-done

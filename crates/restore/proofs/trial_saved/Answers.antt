@@ -1,9 +1,8 @@
 -- `restore::trial_saved` meets its contract: the sums of the rows so far, each part of them tried as a block of its own.
-use Prim.Native.Nat.{ℕ, ◌+◌, ◌-◌, ◌≤◌}
+use Prim.Native.Nat.{ℕ, ◌+◌, ◌≤◌}
 use mathlib.Core.Path.{◌≡◌, sym, subst, ◌∙◌}
 use native.Mathlib.Omega.{arith}
 use native.Mathlib.Nat.{mul_comm}
-use lib.ListN.{length}
 use lib.Seq.{length-take-le}
 use Rattle.planes.specs.Parts.{block_of}
 use Rattle.strips.specs.Strips.{around, own}
@@ -35,14 +34,18 @@ pub slice_bounds-trial_block-end-in-loop-done : goal.slice_bounds-trial_block-en
 slice_bounds-trial_block-end-in-loop-done c = sym (length-take-le _ _ c.narrow_rows-n.ensures.holds)
 
 pub trial_block-part-requires : goal.trial_block-part-requires
-trial_block-part-requires c = record { table_value = c.requires.table_value; sized = c.requires.sized; fits = record {
-          wide = c.requires.fits.0.wide;
-          high = c.requires.fits.0.high;
-          some = c.requires.fits.0.some;
-          right = c.requires.fits.0.right;
-          bottom = omega (arith, c.requires.fits.0.bottom, c.narrow_rows-n.ensures.few, c.loop-done-test.true);
-          entries = length-take-le _ _ c.narrow_rows-n.ensures.holds ∙ mul_comm c.narrow_rows-n.result c.args.width;
-        } }
+trial_block-part-requires c = record {
+  table_value = c.requires.table_value;
+  sized = c.requires.sized;
+  fits = record {
+    wide = c.requires.fits.0.wide;
+    high = c.requires.fits.0.high;
+    some = c.requires.fits.0.some;
+    right = c.requires.fits.0.right;
+    bottom = omega (arith, c.requires.fits.0.bottom, c.narrow_rows-n.ensures.few, c.loop-done-test.true);
+    entries = length-take-le _ _ c.narrow_rows-n.ensures.holds ∙ mul_comm c.narrow_rows-n.result c.args.width;
+  };
+}
 
 pub overflow_add-old : goal.overflow_add-old
 overflow_add-old c =

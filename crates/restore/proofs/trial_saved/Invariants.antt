@@ -1,14 +1,9 @@
-use Prim.Native.Nat.{ℕ, ◌+◌, ◌-◌, ◌≤◌}
-use mathlib.Core.Path.{◌≡◌, sym, subst, ◌∙◌}
-use native.Mathlib.Omega.{arith}
-use native.Mathlib.Nat.{mul_comm}
+use Prim.Native.Nat.{◌-◌, ◌≤◌}
+use mathlib.Core.Path.{◌≡◌}
 use lib.ListN.{length}
-use lib.Seq.{length-take-le}
 use Rattle.planes.specs.Parts.{block_of}
 use Rattle.strips.specs.Strips.{around, own}
 use Rattle.trial.specs.Trial.{BlockTrial}
-use Rattle.trial.proofs.Blocks.{block_none, block_small}
-use Rattle.restore.proofs.Parts.{narrow_requires, block_saved}
 use Rattle.restore.proofs.trial_saved.Given as goal
 
 abbrev pub invariant-loop-done : goal.invariant-loop-done

@@ -1,5 +1,4 @@
 -- `scan::verdict` meets its contract.
-use borrow.Author.Rules.{rules}
 use borrow.Author.Tests.{eq-eqb, ne_eqb}
 use Rattle.scan.proofs.verdict.Goals as goal
 

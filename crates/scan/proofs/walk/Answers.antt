@@ -1,19 +1,17 @@
 -- `scan::walk` meets its contract. Between rows no difference has been found and the rows' errors are summed; within a row the same holds
 -- up to the column.
-use Prim.Native.Nat.{ℕ, ◌-◌, ◌<◌, ◌≤◌}
+use Prim.Native.Nat.{ℕ, ◌<◌}
 use mathlib.Core.Path.{◌≡◌, refl, sym, ap, ◌∙◌}
 use native.Mathlib.Omega.{arith}
-use borrow.Author.Tests.{not-true, not-false}
 use Rattle.model.specs.declared.Settings.{Settings}
 use Rattle.model.specs.Planes.{Pictures, Depths, Held, pictures, depths, view, held}
 use Rattle.model.proofs.Refusals.{Common, common_facts}
-use Rattle.scan.specs.declared.Place.TheVariants.{None}
 use Rattle.scan.specs.Walks.{drawing_settings}
 use Rattle.model.specs.Combined.{square_error}
 use Rattle.model.proofs.Totals.{sample_most}
 use Rattle.scan.proofs.Positions.{RowIn, row_within, EntryIn, entry_within}
-use Rattle.scan.proofs.Drawing.{Seen, seen_at, error_is}
-use Rattle.scan.proofs.Passed.{Passed, passed_none, passed_next, passed_row, walked_all, walked_at}
+use Rattle.scan.proofs.Drawing.{seen_at, error_is}
+use Rattle.scan.proofs.Passed.{passed_none, passed_next, passed_row, walked_all, walked_at}
 use Rattle.scan.proofs.walk.Goals as goal
 use Rattle.scan.proofs.walk.Goals.{Start}
 
@@ -90,7 +88,7 @@ pub square_error-requires : goal.square_error-requires
 square_error-requires c =
     let s = (goal.at.square_error-requires c).Start in
     let seen = seen_at (settings_of s) (pictures_of s) (depths_lent s) (held_of s) c.rows.y c.loop-x.x _ _ _ _ (common s).depths c.rows-test.true c.loop-x-test.true
-        c.draw_front.ensures c.draw_front-in-rows.ensures c.shown_at-shown.ensures c.same_at.ensures in
+    c.draw_front.ensures c.draw_front-in-rows.ensures c.shown_at-shown.ensures c.same_at.ensures in
     let shown = sample_most (settings_of s) (pictures_of s) (depths_lent s) (common s).depths (common s).share c.rows.y c.loop-x.x c.rows-test.true c.loop-x-test.true in
     (c.requires.squares, (rw seen.shown_is shown, c.sample_in.ensures.1))
 
@@ -110,7 +108,7 @@ pub loop-x-preserved : goal.loop-x-preserved
 loop-x-preserved c =
     let s = (goal.at.loop-x-preserved c).Start in
     let seen = seen_at (settings_of s) (pictures_of s) (depths_lent s) (held_of s) c.rows.y c.loop-x.x _ _ _ _ (common s).depths c.rows-test.true c.loop-x-test.true
-        c.draw_front.ensures c.draw_front-in-rows.ensures c.shown_at-shown.ensures c.same_at.ensures in (
+    c.draw_front.ensures c.draw_front-in-rows.ensures c.shown_at-shown.ensures c.same_at.ensures in (
       omega (arith, c.loop-x-test.true),
       (
         c.loop-x.invariant.1.0,
@@ -148,6 +146,6 @@ pub returns-then-not-same_at : goal.returns-then-not-same_at
 returns-then-not-same_at c =
     let s = (goal.at.returns-then-not-same_at c).Start in
     let seen = seen_at (settings_of s) (pictures_of s) (depths_lent s) (held_of s) c.rows.y c.loop-x.x _ _ _ _ (common s).depths c.rows-test.true c.loop-x-test.true
-        c.draw_front.ensures c.draw_front-in-rows.ensures c.shown_at-shown.ensures c.same_at.ensures in
+    c.draw_front.ensures c.draw_front-in-rows.ensures c.shown_at-shown.ensures c.same_at.ensures in
     walked_at (settings_of s) (pictures_of s) (depths_lent s) (held_of s) c.rows.y c.loop-x.x c.loop-x.sum c.rows-test.true c.loop-x-test.true c.loop-x.invariant.1.1
     (sym seen.same_is ∙ c.if-not-same_at.true)

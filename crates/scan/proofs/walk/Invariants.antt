@@ -1,17 +1,9 @@
 use Prim.Native.Nat.{◌-◌, ◌≤◌}
-use mathlib.Core.Path.{◌≡◌, refl, sym, ap, ◌∙◌}
-use native.Mathlib.Omega.{arith}
-use borrow.Author.Tests.{not-true, not-false}
-use Rattle.model.specs.declared.Settings.{Settings}
-use Rattle.model.specs.Planes.{Pictures, Depths, Held, pictures, depths, view, held}
-use Rattle.model.proofs.Refusals.{Common, common_facts}
+use mathlib.Core.Path.{◌≡◌}
+use Rattle.model.specs.Planes.{pictures, depths, view, held}
 use Rattle.scan.specs.declared.Place.TheVariants.{None}
 use Rattle.scan.specs.Walks.{drawing_settings}
-use Rattle.model.specs.Combined.{square_error}
-use Rattle.model.proofs.Totals.{sample_most}
-use Rattle.scan.proofs.Positions.{RowIn, row_within, EntryIn, entry_within}
-use Rattle.scan.proofs.Drawing.{Seen, seen_at, error_is}
-use Rattle.scan.proofs.Passed.{Passed, passed_none, passed_next, passed_row, walked_all, walked_at}
+use Rattle.scan.proofs.Passed.{Passed}
 use Rattle.scan.proofs.walk.Given as goal
 
 abbrev pub invariant-loop-x : goal.invariant-loop-x

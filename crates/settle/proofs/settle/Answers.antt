@@ -3,7 +3,6 @@ use mathlib.Core.Path.{refl, sym, ◌∙◌}
 use native.Mathlib.Omega.{arith}
 use Rattle.trial.proofs.Blocks.{block_small}
 use Rattle.settled.proofs.Settling.{set_requires, saved_requires}
-use borrow.Author.Rules.{rules}
 use Rattle.settle.proofs.settle.Goals as goal
 
 pub trial_candidate-sums-requires : goal.trial_candidate-sums-requires
@@ -22,20 +21,19 @@ judge_then-decision-requires c =
     (small.0, (small.1, c.most_total-most.ensures.1))
 
 pub returns-then-number-ne0 : goal.returns-then-number-ne0
-returns-then-number-ne0 c =
-    (
-      record {
-        old = c.trial_candidate-sums.result.old;
-        new = c.trial_candidate-sums.result.new;
-        tried = c.trial_candidate-sums.ensures;
-        judged = rw (c.most_total-most.ensures.0, c.saving-late.ensures) at c.judge_then-decision.ensures;
-        kept_depths = λ _. refl;
-        kept_view = λ _. refl;
-        kept_combined = λ _. refl;
-        set = λ z. absurd (c.if-number-ne0.true (c.number.ensures ∙ z));
-      },
-      record { kept = λ _. refl; recorded = λ z. absurd (c.if-number-ne0.true (c.number.ensures ∙ z)) },
-    )
+returns-then-number-ne0 c = (
+  record {
+    old = c.trial_candidate-sums.result.old;
+    new = c.trial_candidate-sums.result.new;
+    tried = c.trial_candidate-sums.ensures;
+    judged = rw (c.most_total-most.ensures.0, c.saving-late.ensures) at c.judge_then-decision.ensures;
+    kept_depths = λ _. refl;
+    kept_view = λ _. refl;
+    kept_combined = λ _. refl;
+    set = λ z. absurd (c.if-number-ne0.true (c.number.ensures ∙ z));
+  },
+  record { kept = λ _. refl; recorded = λ z. absurd (c.if-number-ne0.true (c.number.ensures ∙ z)) },
+)
 
 pub save-requires : goal.save-requires
 save-requires c =

@@ -7,7 +7,6 @@ use mir.Val.{SFits}
 use Rattle.model.specs.Planes.{pictures, depths}
 use Rattle.decide.specs.Decided.{held_of}
 use Rattle.take_back.proofs.Taking.{early_taken, newest_there, part_there, taken_requires, take_refused, take_settled}
-use borrow.Author.Rules.{rules}
 use Rattle.take_back.proofs.take_back.Goals as goal
 
 pub returns-then-number-ne0 : goal.returns-then-number-ne0

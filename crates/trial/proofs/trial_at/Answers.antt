@@ -16,10 +16,15 @@ doubled s = omega (arith, s.requires.own_row_in, s.well_formed)
 
 pub trial_beside-requires : goal.trial_beside-requires
 trial_beside-requires c =
-    let x = part_length c.args.candidate.now (c.args.i * c.args.width) c.args.width c.requires.width_in_bounds.0 in record { table_value = c.requires.table_value; around_row_in = c.requires.around_row_in; depths_len = (
-            part_length c.args.depths.now (c.args.y * c.args.w) c.args.w c.requires.own_row_in.depths,
-            (part_length c.args.texture.now (c.args.y * c.args.w) c.args.w c.requires.own_row_in.texture, part_length c.args.limits.now (c.args.y * c.args.w) c.args.w c.requires.own_row_in.limits),
-          ); candidate_nonzero = (rw x c.requires.width_in_bounds.1.0, (rw x c.requires.width_in_bounds.1.1.0, c.requires.width_in_bounds.1.1.1)) }
+    let x = part_length c.args.candidate.now (c.args.i * c.args.width) c.args.width c.requires.width_in_bounds.0 in record {
+      table_value = c.requires.table_value;
+      around_row_in = c.requires.around_row_in;
+      depths_len = (
+        part_length c.args.depths.now (c.args.y * c.args.w) c.args.w c.requires.own_row_in.depths,
+        (part_length c.args.texture.now (c.args.y * c.args.w) c.args.w c.requires.own_row_in.texture, part_length c.args.limits.now (c.args.y * c.args.w) c.args.w c.requires.own_row_in.limits),
+      );
+      candidate_nonzero = (rw x c.requires.width_in_bounds.1.0, (rw x c.requires.width_in_bounds.1.1.0, c.requires.width_in_bounds.1.1.1));
+    }
 
 pub returns : goal.returns
 unfolding row_of

@@ -18,12 +18,17 @@ doubled s = omega (arith, s.requires.around_row_in, s.well_formed)
 pub trial_row-requires : goal.trial_row-requires
 trial_row-requires c =
     let r = part_length c.args.reference.now (c.args.y * c.args.w) c.args.w c.requires.around_row_in.reference in
-    let m = part_length c.args.marks.now (c.args.y * mark_bytes c.args.w) (mark_bytes c.args.w) c.requires.around_row_in.marks in record { table_value = c.requires.table_value; depths_len = (c.requires.depths_len.0 ∙ sym r, (c.requires.depths_len.1.0 ∙ sym r, c.requires.depths_len.1.1 ∙ sym r)); beside = record {
-            samples_wide = part_length c.args.samples.now (c.args.y * c.args.w) c.args.w c.requires.around_row_in.samples ∙ sym r;
-            fronts_wide = part_length c.args.fronts.now (c.args.y * c.args.w) c.args.w c.requires.around_row_in.fronts ∙ sym r;
-            marks_wide = rw (r, m) (omega arith);
-            combined_wide = part_length c.args.combined.now (c.args.y * c.args.w) c.args.w c.requires.around_row_in.combined ∙ sym r;
-          }; candidate_nonzero = (c.requires.candidate_nonzero.0, (rw c.requires.depths_len.0 c.requires.candidate_nonzero.1.0, rw r c.requires.candidate_nonzero.1.1)) }
+    let m = part_length c.args.marks.now (c.args.y * mark_bytes c.args.w) (mark_bytes c.args.w) c.requires.around_row_in.marks in record {
+      table_value = c.requires.table_value;
+      depths_len = (c.requires.depths_len.0 ∙ sym r, (c.requires.depths_len.1.0 ∙ sym r, c.requires.depths_len.1.1 ∙ sym r));
+      beside = record {
+        samples_wide = part_length c.args.samples.now (c.args.y * c.args.w) c.args.w c.requires.around_row_in.samples ∙ sym r;
+        fronts_wide = part_length c.args.fronts.now (c.args.y * c.args.w) c.args.w c.requires.around_row_in.fronts ∙ sym r;
+        marks_wide = rw (r, m) (omega arith);
+        combined_wide = part_length c.args.combined.now (c.args.y * c.args.w) c.args.w c.requires.around_row_in.combined ∙ sym r;
+      };
+      candidate_nonzero = (c.requires.candidate_nonzero.0, (rw c.requires.depths_len.0 c.requires.candidate_nonzero.1.0, rw r c.requires.candidate_nonzero.1.1));
+    }
 
 pub returns : goal.returns
 unfolding row_of

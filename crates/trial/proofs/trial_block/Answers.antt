@@ -1,8 +1,7 @@
 -- `trial::trial_block` meets its contract: the sums of the rows so far (proofs/Blocks).
-use Prim.Native.Nat.{ℕ, ◌+◌, ◌-◌, ◌≤◌, ◌<◌}
+use Prim.Native.Nat.{ℕ, ◌+◌, ◌-◌, ◌<◌}
 use mathlib.Core.Path.{◌≡◌, ap, subst, ◌∙◌}
 use native.Mathlib.Omega.{arith}
-use borrow.Author.Rules.{rules}
 use Rattle.model.specs.Lists.{row_of}
 use Rattle.model.specs.Span.{first_column}
 use Rattle.planes.specs.Parts.{block_of}

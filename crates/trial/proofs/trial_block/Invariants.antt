@@ -1,13 +1,7 @@
-use Prim.Native.Nat.{ℕ, ◌+◌, ◌-◌, ◌≤◌, ◌<◌}
-use mathlib.Core.Path.{◌≡◌, ap, subst, ◌∙◌}
-use native.Mathlib.Omega.{arith}
-use borrow.Author.Rules.{rules}
-use Rattle.model.specs.Lists.{row_of}
-use Rattle.model.specs.Span.{first_column}
+use Prim.Native.Nat.{◌-◌, ◌≤◌}
 use Rattle.planes.specs.Parts.{block_of}
-use Rattle.strips.specs.Strips.{around, own, RowTrial}
-use Rattle.trial.specs.Trial.{own_row, around_row, BlockTrial}
-use Rattle.trial.proofs.Blocks.{block_none, block_next, block_small, own_in, around_in, candidate_in}
+use Rattle.strips.specs.Strips.{around, own}
+use Rattle.trial.specs.Trial.{BlockTrial}
 use Rattle.trial.proofs.trial_block.Given as goal
 
 abbrev pub invariant-loop-i : goal.invariant-loop-i

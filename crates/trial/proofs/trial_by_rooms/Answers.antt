@@ -10,7 +10,6 @@ use mir.Syntax.{w64}
 use Rattle.model.specs.Candidates.{filled}
 use Rattle.model.specs.Combined.{worst}
 use Rattle.planes.specs.Parts.{block_of}
-use Rattle.fill.specs.Rows.{Started}
 use Rattle.fill.proofs.Rows.{row_there}
 use Rattle.fill.proofs.Rooms.{room_holds, room_some, room_made, started_part, started_back, front_back}
 use Rattle.strips.specs.Strips.{around, own}
@@ -104,14 +103,18 @@ slice_bounds-trial_block-end-in-loop-done c =
 pub trial_block-part-requires : goal.trial_block-part-requires
 trial_block-part-requires c =
     let m : c.fewer-n.result * c.args.width ≤ length c.loop-done.room = room_in c.fewer-n.result (length c.args.room.now) c.args.width _ _ c.fewer-n.ensures.1.0 c.loop-done.invariant.1.0 c.start.ensures.1 in
-    let e = front_back c.loop-done.room c.fill_rows.new.room (c.fewer-n.result * c.args.width) m c.fill_rows.ensures.size in record { table_value = c.requires.table_value; sized = c.requires.sized; fits = record {
-          wide = c.requires.fits.0.wide;
-          high = c.requires.fits.0.high;
-          some = c.requires.fits.0.some;
-          right = c.requires.fits.0.right;
-          bottom = bottom-in _ _ _ _ _ c.requires.fits.0.bottom c.fewer-n.ensures.1.1 c.loop-done-test.true;
-          entries = ap length e.1.1 ∙ e.0 ∙ mul_comm c.fewer-n.result c.args.width;
-        } }
+    let e = front_back c.loop-done.room c.fill_rows.new.room (c.fewer-n.result * c.args.width) m c.fill_rows.ensures.size in record {
+      table_value = c.requires.table_value;
+      sized = c.requires.sized;
+      fits = record {
+        wide = c.requires.fits.0.wide;
+        high = c.requires.fits.0.high;
+        some = c.requires.fits.0.some;
+        right = c.requires.fits.0.right;
+        bottom = bottom-in _ _ _ _ _ c.requires.fits.0.bottom c.fewer-n.ensures.1.1 c.loop-done-test.true;
+        entries = ap length e.1.1 ∙ e.0 ∙ mul_comm c.fewer-n.result c.args.width;
+      };
+    }
 
 pub overflow_add-old : goal.overflow_add-old
 overflow_add-old c =

@@ -1,20 +1,11 @@
-use Prim.Native.Nat.{ℕ, ◌+◌, ◌-◌, ◌*◌, ◌/◌, ◌≤◌, ◌<◌}
-use mathlib.Core.Path.{◌≡◌, refl, sym, ap, subst, ◌∙◌}
-use native.Mathlib.Omega.{arith}
-use native.Mathlib.Nat.{mul_comm}
+use Prim.Native.Nat.{◌-◌, ◌≤◌}
+use mathlib.Core.Path.{◌≡◌}
 use lib.ListN.{length}
-use lib.Seq.{length-take-le}
-use mir.Val.{Fits}
-use mir.Syntax.{w64}
 use Rattle.model.specs.Candidates.{filled}
-use Rattle.model.specs.Combined.{worst}
 use Rattle.planes.specs.Parts.{block_of}
 use Rattle.fill.specs.Rows.{Started}
-use Rattle.fill.proofs.Rows.{row_there}
-use Rattle.fill.proofs.Rooms.{room_holds, room_some, room_made, started_part, started_back, front_back}
 use Rattle.strips.specs.Strips.{around, own}
 use Rattle.trial.specs.Trial.{BlockTrial}
-use Rattle.trial.proofs.Blocks.{block_none, block_small, block_made}
 use Rattle.trial.proofs.trial_by_rooms.Given as goal
 
 abbrev pub invariant-loop-done : goal.invariant-loop-done

@@ -1,11 +1,6 @@
 -- `trial::trial_candidate` meets its contract: a full block is its bytes.
-use mathlib.Core.Path.{◌≡◌, sym, ◌∙◌}
-use mathlib.Core.Bool.{true}
-use mathlib.Core.List.{List}
-use borrow.Author.Rules.{rules}
-use Rattle.model.specs.Candidates.{filled}
+use mathlib.Core.Path.{sym, ◌∙◌}
 use Rattle.planes.specs.Parts.{block_of}
-use Rattle.fill.specs.Rows.{is_lent}
 use Rattle.fill.proofs.Rows.{lent_filled}
 use Rattle.trial.proofs.trial_candidate.Goals as goal
 

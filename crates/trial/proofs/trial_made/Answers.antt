@@ -1,6 +1,5 @@
 -- `trial::trial_made` meets its contract: either room holds a row.
 use native.Mathlib.Omega.{arith}
-use borrow.Author.Rules.{rules}
 use Rattle.trial.proofs.trial_made.Goals as goal
 
 pub trial_by_rooms-requires : goal.trial_by_rooms-requires

@@ -1,0 +1,2 @@
+-- What a run promises.
+pub mod Run
