@@ -11,7 +11,6 @@ use Rattle.model.specs.declared.Settings.{Settings}
 use Rattle.model.specs.declared.Block.{Block}
 use Rattle.model.specs.declared.Candidate.{Candidate}
 use Rattle.model.specs.Planes.{Pictures, Depths, Held, State, with_total}
-use Rattle.model.specs.Fresh.{fresh, fresh_total}
 use Rattle.model.specs.Promises.{OpenPost, SetPost, TakeBackPost}
 use Rattle.model.proofs.Choice.{bool_cases}
 use Rattle.run.specs.Run.{Event, Reply, leaves, plain, plain_answer}
