@@ -1,4 +1,4 @@
-// Links libluphwezane.a, which `rt staticlib luphwezane` writes to target/staticlib of the repository.
+// Links libluphwezane.a, which tools/archive writes to target/staticlib of the repository.
 // The variable LUPHWEZANE_DIR names another folder that holds it. With LUPHWEZANE_LATER the archive may be missing still: the linker waits for it (.ci/linker).
 use std::path::PathBuf;
 
@@ -12,7 +12,7 @@ fn main() {
     let archive = folder.join("libluphwezane.a");
     println!("cargo:rerun-if-changed={}", archive.display());
     if !archive.is_file() && std::env::var_os("LUPHWEZANE_LATER").is_none() {
-        eprintln!("{} is missing: run `rt staticlib luphwezane` in the repository's root first", archive.display());
+        eprintln!("{} is missing: run tools/archive in the repository's root first", archive.display());
         std::process::exit(1);
     }
     println!("cargo:rustc-link-search=native={}", folder.display());

@@ -3,14 +3,14 @@
 //!
 //! The forms that are read, in a table or beside one:
 //!
-//!     trial/proofs/Rows `row-trial`      declared in that file, below crates/
-//!     Rows `row-trial`                   declared in a file of that name
+//!     trial/proofs/Rows `row_trial`      declared in that file, below crates/
+//!     Rows `row_trial`                   declared in a file of that name
 //!     include/luphwezane.h `luph_keep`   a word of that file, outside the crates
 //!     trial `span_start`, `measure`      both declared in that crate
 //!     `trial::measure`                   the same, for one function
 //!     `EditPost.held`                    a field of a record, or a constructor of a type
 //!     `refused..`                        some name that begins so
-//!     `row-trial`                        declared in some crate, or the name of one
+//!     `row_trial`                        declared in some crate, or the name of one
 //!
 //! What has a space or a bracket in its backticks is code, not a name. A column `edits` has `crate: name, name; crate, crate: name`
 //! and `crate: all`.

@@ -1,6 +1,7 @@
-//! The symbols of the library as crates/luphwezane exports them, as src/raw/symbols.rs declares them and as the C header does: the
+//! The symbols of the library as crates/luphwezane_c exports them, as src/raw/symbols.rs declares them and as the C header does: the
 //! same names, parameters and types in the same order, and so the fields of what is passed by value, and the refusals' numbers.
-//! All are read as text; the header is read as the C preprocessor writes it (the compiler that CC names, or cc).
+//! Each has the parameters and the clauses of the function of crates/luphwezane that it calls. All are read as text; the header is read
+//! as the C preprocessor writes it (the compiler that CC names, or cc).
 
 use std::collections::BTreeMap;
 use std::path::Path;
@@ -113,10 +114,12 @@ fn with_result(mut parameters: Parts, result: &str) -> Parts {
     parameters
 }
 
-/// What crates/luphwezane exports.
+const EXPORT: &str = "#[unsafe(no_mangle)]\npub extern \"C\" fn ";
+
+/// What crates/luphwezane_c exports.
 fn exported() -> BTreeMap<String, Parts> {
-    let code = code("crates/luphwezane/src/lib.rt");
-    let exported: BTreeMap<String, Parts> = each(&code, "#[no_mangle]\npub extern \"C\" fn ", "\n{")
+    let code = code("crates/luphwezane_c/src/lib.rt");
+    let exported: BTreeMap<String, Parts> = each(&code, EXPORT, "\n{")
         .map(|function| {
             let (name, rest) = function.split_once('(').expect("a function has parameters");
             let (parameters, rest) = rest.split_once(')').expect("a list of parameters ends");
@@ -128,6 +131,35 @@ fn exported() -> BTreeMap<String, Parts> {
     assert_eq!(exported.len(), code.matches("no_mangle").count());
     assert!(!exported.is_empty());
     exported
+}
+
+/// What stands between `start` and the body of each function, by name: parameters, result and clauses, apart from how they are laid out.
+fn promised(code: &str, start: &str) -> BTreeMap<String, String> {
+    let functions = each(code, start, "\n{").map(|function| {
+        let (name, rest) = function.split_once(['<', '(']).expect("a function has parameters");
+        assert!(rest.contains("ensures"), "{name} has no clause");
+        (name.to_string(), function.split_whitespace().collect::<Vec<_>>().join(" "))
+    });
+    let functions: BTreeMap<String, String> = functions.collect();
+    assert_eq!(functions.len(), code.matches(" fn ").count());
+    functions
+}
+
+/// What the clauses cite is the same too: both crates import it under the same names from the same places.
+#[test]
+fn exports_promise_what_they_call_promises() {
+    let (library, exports) = (code("crates/luphwezane/src/lib.rt"), code("crates/luphwezane_c/src/lib.rt"));
+    let functions = promised(&library, "\npub fn ");
+    assert_eq!(promised(&exports, EXPORT), functions);
+    let uses = |code: &str| -> Vec<String> {
+        code.lines().filter(|line| line.starts_with("ghost use ") || line.starts_with("use ")).map(str::to_string).collect()
+    };
+    assert_eq!(uses(&exports), uses(&library));
+    for (name, body) in each(&exports, EXPORT, "\n}").map(|function| function.split_once("\n{").expect("a function has a body")) {
+        let name = name.split(['<', '(']).next().unwrap_or(name);
+        assert!(body.trim_start().starts_with(&format!("luphwezane::{name}(")), "{name} calls another function");
+    }
+    assert!(!library.contains("no_mangle") && !library.contains("extern"), "the library has symbols of its own");
 }
 
 #[test]

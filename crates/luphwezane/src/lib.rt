@@ -12,8 +12,7 @@ use model::{Block, Settings};
 use shape::Shape;
 
 // RENDER.
-#[unsafe(no_mangle)]
-pub extern "C" fn luph_raw_render(
+pub fn luph_raw_render(
     settings: Settings,
     view: u32,
     texture: &[u16],
@@ -31,8 +30,7 @@ pub extern "C" fn luph_raw_render(
 }
 
 // OPEN; the new total goes to `total`.
-#[unsafe(no_mangle)]
-pub extern "C" fn luph_raw_open(
+pub fn luph_raw_open(
     settings: Settings,
     left: &[u16],
     right: &[u16],
@@ -77,8 +75,7 @@ pub extern "C" fn luph_raw_open(
 }
 
 // MOVE; the new total goes to `total`, and the caller takes the rest of the new settings from `to`.
-#[unsafe(no_mangle)]
-pub extern "C" fn luph_raw_move(
+pub fn luph_raw_move(
     settings: Settings,
     to: Settings,
     left: &[u16],
@@ -125,8 +122,7 @@ pub extern "C" fn luph_raw_move(
 }
 
 // GET; the change of the total goes to `change`. The settings come field by field, the tables lent: GET is the hot call, and a copy of the tables would cost it.
-#[unsafe(no_mangle)]
-pub extern "C" fn luph_raw_get<'a>(
+pub fn luph_raw_get<'a>(
     w: u32,
     h: u32,
     leftTable: &'a [u16; 256],
@@ -193,8 +189,7 @@ pub extern "C" fn luph_raw_get<'a>(
 }
 
 // SET; the change of the total goes to `change` and the new total to `total`.
-#[unsafe(no_mangle)]
-pub extern "C" fn luph_raw_set(
+pub fn luph_raw_set(
     settings: Settings,
     left: &[u16],
     right: &[u16],
@@ -249,8 +244,7 @@ pub extern "C" fn luph_raw_set(
 }
 
 // TAKE BACK; the change of the total goes to `change` and the new total to `total`.
-#[unsafe(no_mangle)]
-pub extern "C" fn luph_raw_take_back(
+pub fn luph_raw_take_back(
     settings: Settings,
     left: &[u16],
     right: &[u16],
@@ -296,8 +290,7 @@ pub extern "C" fn luph_raw_take_back(
 }
 
 // CHECK; what it reports goes to `kind` (0 sound, 1 a difference, 2 the total) and, for a difference, `row` and `column`.
-#[unsafe(no_mangle)]
-pub extern "C" fn luph_raw_check(
+pub fn luph_raw_check(
     settings: Settings,
     left: &[u16],
     right: &[u16],
@@ -341,8 +334,7 @@ pub extern "C" fn luph_raw_check(
 }
 
 // HOLES; the count goes to `count`.
-#[unsafe(no_mangle)]
-pub extern "C" fn luph_raw_holes(
+pub fn luph_raw_holes(
     settings: Settings,
     view: u32,
     left: &[u8],

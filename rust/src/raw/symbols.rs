@@ -1,4 +1,4 @@
-//! The symbols of the static library, as crates/luphwezane exports them. This is their one declaration in Rust: tests that pass
+//! The symbols of the static library, as crates/luphwezane_c exports them. This is their one declaration in Rust: tests that pass
 //! what only a C program can use it too.
 
 use super::{Block, Point, Settings};
