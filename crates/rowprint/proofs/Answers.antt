@@ -1,13 +1,16 @@
 -- From what was read and what was written to what is promised of the printer's answer.
+--     take_within         a part that has its length can be lent
+--     counts              and so can what was written
 --     printed_drawing     the lines of what was drawn are those of the row
 --     answers_row         a row is answered by what is printed of it, and by nothing else, since a text is that of one row only
 --     answers_bad         any other text by `bad input`
-use Prim.Native.Nat.{ℕ}
-use mathlib.Core.Path.{sym, ap, ◌∙◌}
+use Prim.Native.Nat.{ℕ, ◌≤◌}
+use mathlib.Core.Path.{◌≡◌, sym, ap, ◌∙◌}
 use mathlib.Core.Bool.{false}
 use mathlib.Core.List.{List, ◌++◌}
 use native.Mathlib.Omega.{arith}
-use lib.ListN.{take}
+use lib.ListN.{length, take, length-take}
+use lib.Seq.{length-take-le}
 use Rattle.model.specs.Lists.{rows}
 use Rattle.model.specs.Row.{line}
 use Rattle.model.specs.Views.{view_row}
@@ -23,6 +26,16 @@ pub printed_drawing : (w : ℕ) (texture depths samples marks fronts : List ℕ)
 unfolding printed drawn_row
 printed_drawing w texture depths samples marks fronts h a =
     put_as (ap (λ (l : List ℕ). header_of w ++ l) (same_lines (view_row false (line printer_tear printer_table texture depths)) w samples marks fronts h)) (omega arith) a
+
+-- a part that has its length can be lent
+pub take_within : (n : ℕ) (l : List ℕ) → length (take n l) ≡ n → n ≤ length l
+take_within n l e = omega (arith, length-take n l)
+
+-- and so can what was written
+pub counts : {m : ℕ} {o xs q : List ℕ} {n : ℕ} → m ≤ length o → Put m o 0 xs q n → (n ≤ length q) × (n ≡ length (take n q))
+counts {q = q} {n = n} h a =
+    let k : n ≤ length q = omega arith in
+    (k, sym (length-take-le n q k))
 
 pub answers_row : (text : List ℕ) (w : ℕ) (samples depths : List ℕ) {m : ℕ} {o q : List ℕ} {n : ℕ} → IsRow text w samples depths → Put m o 0 (printed (row_text w (take w samples) (take w depths))) q n → Answers text (take n q)
 answers_row text w samples depths i a =
