@@ -1,8 +1,8 @@
 -- The fresh drawing by its rows.
---     fresh_total_lem, fresh_total_total                 it does not depend on the total in the settings
---     length-fresh-.., row-fresh-..                 its planes have their lengths, and the drawn rows for rows
+--     fresh_total_lem, fresh_total_total            it does not depend on the total in the settings
+--     length-fresh_.., row_fresh_..                 its planes have their lengths, and the drawn rows for rows
 --     flag_pixel, flags_view                        marks are 0 or 1
---     held-pixel                                    what the fresh planes hold at a position is what the row shows there
+--     mark_fresh                                    the mark that the fresh planes hold at a position is the row's
 use Prim.Native.Nat.{ℕ, ◌+◌, ◌-◌, ◌*◌, ◌<◌}
 use mathlib.Core.Path.{◌≡◌, refl, ap, ◌∙◌}
 use mathlib.Core.Bool.{Bool, true, false}

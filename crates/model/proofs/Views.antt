@@ -1,7 +1,7 @@
 -- A row as a view reads it.
 --     length_seen, seen_seen, get_or_seen, set_seen     a reversed list, its entries, and a store
 --     entry_within, entry_entry                       entries and positions, both ways
---     getD-view-.., shown_view                        what a view's drawn row has and shows at an entry
+--     get_or_view_.., shown_view                      what a view's drawn row has and shows at an entry
 use Prim.Native.Nat.{ℕ, suc, ◌-◌, ◌<◌}
 use mathlib.Core.Path.{◌≡◌, refl, sym, ap, ◌∙◌}
 use mathlib.Core.Bool.{Bool, true, false}
@@ -30,13 +30,13 @@ entry_entry true w i h = omega arith
 entry_entry false w i h = refl
 
 module _ {A : Type 0} where
-  get_d_reverse : (z : A) (l : List A) (i : ℕ) → i < length l → get_or (reverse l) i z ≡ get_or l (length l - 1 - i) z
-  get_d_reverse z [] i h = absurd (not-suc-le-zero h)
-  get_d_reverse z (x ∷ xs) i h =
+  get_or_reverse : (z : A) (l : List A) (i : ℕ) → i < length l → get_or (reverse l) i z ≡ get_or l (length l - 1 - i) z
+  get_or_reverse z [] i h = absurd (not-suc-le-zero h)
+  get_or_reverse z (x ∷ xs) i h =
       ap (λ (w : List A). get_or w i z) (reverse-cons x xs)
       ∙ ⊎_elim
       (λ k. let e : suc (length xs - 1 - i) ≡ suc (length xs) - 1 - i = omega arith in
-      get_or-append (reverse xs) (x ∷ []) z i (omega (arith, length-reverse xs)) ∙ get_d_reverse z xs i k ∙ ap (λ (j : ℕ). get_or (x ∷ xs) j z) e)
+      get_or-append (reverse xs) (x ∷ []) z i (omega (arith, length-reverse xs)) ∙ get_or_reverse z xs i k ∙ ap (λ (j : ℕ). get_or (x ∷ xs) j z) e)
       (λ k. let e : 0 ≡ suc (length xs) - 1 - i = omega arith in
       let n : length (reverse xs) ≡ i = omega (arith, length-reverse xs) in
       get_or_at (reverse xs) x [] z i n ∙ ap (λ (j : ℕ). get_or (x ∷ xs) j z) e)
@@ -52,9 +52,9 @@ module _ {A : Type 0} where
       let k' : j < length (set l (length l - 1 - i) v) = omega (arith, length-set l (length l - 1 - i) v) in
       let e : length (set l (length l - 1 - i) v) - 1 - j ≡ length l - 1 - j = ap (λ (q : ℕ). q - 1 - j) (length-set l (length l - 1 - i) v) in
       let other : (j ≡ i → ⊥) → get_or (set l (length l - 1 - i) v) (length l - 1 - j) z ≡ get_or (set (reverse l) i v) j z = λ ne.
-      get_or-set_other l (length l - 1 - i) (length l - 1 - j) v z (λ q. ne (omega arith)) ∙ sym (get_d_reverse z l j j<)
+      get_or-set_other l (length l - 1 - i) (length l - 1 - j) v z (λ q. ne (omega arith)) ∙ sym (get_or_reverse z l j j<)
       ∙ sym (get_or-set_other (reverse l) i j v z ne) in
-      get_d_reverse z (set l (length l - 1 - i) v) j k' ∙ ap (λ (q : ℕ). get_or (set l (length l - 1 - i) v) q z) e
+      get_or_reverse z (set l (length l - 1 - i) v) j k' ∙ ap (λ (q : ℕ). get_or (set l (length l - 1 - i) v) q z) e
       ∙ ⊎_elim (λ u. other (λ q. omega arith))
       (λ u. ⊎_elim (λ w. other (λ q. omega arith))
       (λ w. let q : j ≡ i = omega arith in
@@ -65,7 +65,7 @@ module _ {A : Type 0} where
 
   pub get_or_seen : (z : A) (r : Bool) (l : List A) (i : ℕ) → i < length l → get_or (seen r l) i z ≡ get_or l (entry_of r (length l) i) z
   unfolding seen entry_of
-  get_or_seen z true l i h = get_d_reverse z l i h
+  get_or_seen z true l i h = get_or_reverse z l i h
   get_or_seen z false l i h = refl
 
   pub length_seen : (r : Bool) (l : List A) → length (seen r l) ≡ length l

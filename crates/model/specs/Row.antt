@@ -3,9 +3,9 @@
 --
 -- A place, 4 × c − table[d] in quarters (`signed_place`), may be as low as −1,023. After that every number of quarters is kept as a natural
 -- number, raised by 1,024, and `signed` takes that away again. The laws of proofs/Signs show that nothing is lost by it:
---     signed_place_lem     the raised place of column c stands for 4 × c − table[d], where the table's entry is at most 1,023
+--     signed_place_lem the raised place of column c stands for 4 × c − table[d], where the table's entry is at most 1,023
 --     signed_quarter   the raised position p stands for 4 × p
---     signed-le        raised numbers are ordered as what they stand for
+--     signed_le        raised numbers are ordered as what they stand for
 --     signed_gap       and differ by as much
 use Rattle.std.specs.Prelude.{ℕ, zero, suc, ◌+◌, ◌-◌, ◌*◌, ◌/◌, min, Bool, cond, ◌&&◌, List, [], ◌∷◌, length, get_or, leb, ltb, eqb, ℤ, pos, negsuc, neg_ℤ, ◌+ℤ◌, ◌-ℤ◌, ◌*ℤ◌}
 use Rattle.std.proofs.Math.IntN.{sub_ℕ}

@@ -31,8 +31,8 @@ module _ {A : Type 0} where
       omega (arith, a, b, e, length-drop (length xs) (drop at p), length-drop at p)
 
   -- past the end of the first list
-  pub get_d_after : (z : A) (xs ys : List A) (n p : ℕ) → length xs ≡ n → n ≤ p → get_or (xs ++ ys) p z ≡ get_or ys (p - n) z
-  get_d_after z xs ys n p e h =
+  pub get_or_after : (z : A) (xs ys : List A) (n p : ℕ) → length xs ≡ n → n ≤ p → get_or (xs ++ ys) p z ≡ get_or ys (p - n) z
+  get_or_after z xs ys n p e h =
       let q : p ≡ length xs + (p - n) = omega arith in
       ap (λ (i : ℕ). get_or (xs ++ ys) i z) q ∙ get_or-append-add xs ys (p - n) z
 
@@ -47,7 +47,7 @@ module _ {A : Type 0} where
     unfolding splice
     splice_inside i h =
         let e : at + i - at ≡ i = omega arith in
-        get_d_after z (take at p) (xs ++ drop (length xs) (drop at p)) at (at + i) (length-take-le at p (omega arith)) (omega arith)
+        get_or_after z (take at p) (xs ++ drop (length xs) (drop at p)) at (at + i) (length-take-le at p (omega arith)) (omega arith)
         ∙ ap (λ (j : ℕ). get_or (xs ++ drop (length xs) (drop at p)) j z) e
         ∙ get_or-append xs (drop (length xs) (drop at p)) z i h
 
@@ -55,8 +55,8 @@ module _ {A : Type 0} where
     unfolding splice
     splice_beyond i h =
         let e : at + (length xs + (i - at - length xs)) ≡ i = omega arith in
-        get_d_after z (take at p) (xs ++ drop (length xs) (drop at p)) at i (length-take-le at p (omega arith)) (omega arith)
-        ∙ get_d_after z xs (drop (length xs) (drop at p)) (length xs) (i - at) refl (omega arith)
+        get_or_after z (take at p) (xs ++ drop (length xs) (drop at p)) at i (length-take-le at p (omega arith)) (omega arith)
+        ∙ get_or_after z xs (drop (length xs) (drop at p)) (length xs) (i - at) refl (omega arith)
         ∙ get_or-drop (length xs) (drop at p) (i - at - length xs) z
         ∙ get_or-drop at p (length xs + (i - at - length xs)) z
         ∙ ap (λ (j : ℕ). get_or p j z) e

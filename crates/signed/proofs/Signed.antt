@@ -1,7 +1,7 @@
 -- Signed numbers as differences of natural ones, and the machine's signed values.
 --     sub_ℕ-pos, sub_ℕ_neg, add-sub_ℕ     the difference of two naturals, by cases, and added to a natural
 --     minus_fits, minus_is             the machine's difference of two naturals, over the width
---     widened, read-back, of_z_inj      the machine's signed values, read from their bits
+--     widened, read_back, of_z_inj      the machine's signed values, read from their bits
 use Prim.Native.Nat.{ℕ, suc, ◌+◌, ◌-◌, ◌^◌, ◌<◌, ◌≤◌}
 use mathlib.Core.Path.{◌≡◌, sym, ap, ◌∙◌}
 use mathlib.Core.Logic.{⊎_elim}

@@ -1,6 +1,6 @@
 -- A trial of held planes that are, as they are read, the fresh drawing tells the change of the fresh total.
 --     around_of, own_of       what GET and SET lend to the trial of a view
---     rows-true             the block's rows hold the truth
+--     row_true              the block's rows hold the truth
 --     total_row             a row's share of the fresh total, as the trial has it
 --     trial_sound           so the two sums of a trial differ by the change
 use Prim.Native.Nat.{ℕ, ◌+◌, ◌-◌, ◌*◌, ◌<◌, ◌≤◌}
