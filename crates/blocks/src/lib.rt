@@ -12,6 +12,7 @@ ghost use Rattle.combine.specs.Combine.{OtherSized, BlockIn, BlockSet};
 use model::{Candidate, Tear};
 
 // Writes the candidate into the block in one view's depths and brings that view's planes and the combined picture up to date.
+#[tactic(auto, using(combine::proofs::Filled::room_most))]
 pub fn set_block(
     tear: Tear,
     right: bool,
@@ -47,9 +48,10 @@ pub fn set_block(
         (view samples.new fronts.new limits.new marks.new)
         combined.old combined.new }
 {
+    // The two calls differ in the room's size alone. A function over that size would have all their arguments once more.
     let n = fill::room_of(candidate, width);
     if n <= 256 {
-        let mut room = fill::short_room();
+        let mut room = planes::room::<u8, 256>(0);
         return combine::set_rows(
             tear,
             right,
@@ -77,7 +79,7 @@ pub fn set_block(
             combined,
         );
     }
-    let mut room = fill::long_room();
+    let mut room = planes::room::<u8, 4096>(0);
     combine::set_rows(
         tear,
         right,

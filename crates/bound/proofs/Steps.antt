@@ -18,14 +18,13 @@ use borrow.Author.Tests.{eq-eqb, eqb-true, eqb-false}
 use Rattle.model.specs.declared.Settings.{Settings}
 use Rattle.model.specs.declared.Block.{Block}
 use Rattle.model.specs.declared.Candidate.{Candidate}
-use Rattle.model.specs.declared.Opened.{Opened}
-use Rattle.model.specs.declared.Trial.{Trial}
-use Rattle.model.specs.declared.Edited.{Edited}
+use Rattle.model.specs.Replies.{OpenReply}
+use Rattle.model.specs.Replies.{TrialReply}
+use Rattle.model.specs.Replies.{EditReply}
 use Rattle.model.specs.Views.{is_right}
 use Rattle.model.specs.Planes.{Pictures, Depths, Held, State, with_total, with_seat, with_reference, read_held}
 use Rattle.model.specs.Candidates.{filled}
 use Rattle.model.specs.Blocks.{old_depths}
-use Rattle.model.specs.Refusals.{number_of}
 use Rattle.model.specs.Promises.{Sound, FillPost, OpenPost, MovePost, GetPost, EditPost, SetPost, TakeBackPost}
 use Rattle.model.proofs.Choice.{bool_cases}
 use Rattle.run.specs.Run.{Call, Reply, Event, Run, reply_of, leaves, pictures_after, plain, plain_answer, plain_end, RunPost}
@@ -74,20 +73,20 @@ settings_told number total t s n given told accepted refused =
     (λ u. let z = eqb-true number 0 u in rw (u, told z) (accepted z ∙ sym (ap (λ (x : Settings). with_total n x.total) (accepted z))))
     (λ u. rw u (refused (eqb-false number 0 u)))
 
-module _ {promise : Trial → Type 0} {number : ℕ} {change₀ change : ℤ} (o : TriedOut promise number change₀ change) where
-  tried_reply : ((number_of o.reply.refusal ≡ 0 → ⊥) → o.reply.change ≡ pos 0) → reply_of o.reply.refusal o.reply.change ≡ plain_answer number change
-  tried_reply = reply_told number (number_of o.reply.refusal) change o.reply.change o.told.number_is o.told.accepted
+module _ {promise : TrialReply → Type 0} {number : ℕ} {change₀ change : ℤ} (o : TriedOut promise number change₀ change) where
+  tried_reply : ((o.reply.number ≡ 0 → ⊥) → o.reply.change ≡ pos 0) → reply_of o.reply.number o.reply.change ≡ plain_answer number change
+  tried_reply = reply_told number (o.reply.number) change o.reply.change o.told.number_is o.told.accepted
 
-module _ {promise : Edited → Type 0} {number total₀ total : ℕ} {change₀ change : ℤ} (o : EditedOut promise number change₀ change total₀ total) {s : Settings} {p : Pictures} {d₀ d : Depths} {h₀ h : Held} {v : ℕ} {b : Block} {c : List ℕ} {early : ℕ} {found : ℤ} (edit : EditPost s p d₀ d h₀ h v b c early found o.reply) where
-  edited_reply : reply_of o.reply.refusal o.reply.change ≡ plain_answer number change
+module _ {promise : EditReply → Type 0} {number total₀ total : ℕ} {change₀ change : ℤ} (o : EditedOut promise number change₀ change total₀ total) {s : Settings} {p : Pictures} {d₀ d : Depths} {h₀ h : Held} {v : ℕ} {b : Block} {c : List ℕ} {early : ℕ} {found : ℤ} (edit : EditPost s p d₀ d h₀ h v b c early found o.reply) where
+  edited_reply : reply_of o.reply.number o.reply.change ≡ plain_answer number change
   edited_reply =
-      reply_told number (number_of o.reply.refusal) change o.reply.change o.told.number_is (λ z. (o.told.accepted z).0) edit.refused_change
+      reply_told number (o.reply.number) change o.reply.change o.told.number_is (λ z. (o.told.accepted z).0) edit.refused_change
 
   edited_settings : o.reply.settings ≡ latest number s s total
   edited_settings =
       settings_told number total _ s s o.reply.settings (λ z. (o.told.accepted z).1) (λ z. edit.settings (sym o.told.number_is ∙ z)) (λ ne. edit.refused_settings (λ z. ne (o.told.number_is ∙ z)))
 
-module _ {promise : Opened → Type 0} {number total₀ total : ℕ} (o : OpenedOut promise number total₀ total) {s n : Settings} {p : Pictures} {d : Depths} {h₀ h : Held} {j₀ j : List ℕ} (fill : FillPost s n p d h₀ h j₀ j o.reply) where
+module _ {promise : OpenReply → Type 0} {number total₀ total : ℕ} (o : OpenedOut promise number total₀ total) {s n : Settings} {p : Pictures} {d : Depths} {h₀ h : Held} {j₀ j : List ℕ} (fill : FillPost s n p d h₀ h j₀ j o.reply) where
   filled_settings : o.reply.settings ≡ latest number s n total
   filled_settings =
       settings_told number total _ s n o.reply.settings o.told.accepted (λ z. fill.settings (sym o.told.number_is ∙ z)) (λ ne. fill.refused_settings (λ z. ne (o.told.number_is ∙ z)))
@@ -158,7 +157,7 @@ module _ {p : Pictures} {st : State} {h : Held} {to : Settings} {reference j k :
 -- ---- the theorems
 
 module _ {s : Settings} {p : Pictures} {d : Depths} {h₀ h : Held} {j₀ j : List ℕ} {number total₀ total : ℕ} (o : OpenedOut (OpenPost s p d h₀ h j₀ j) number total₀ total) (accepted : number ≡ 0) where
-  yes : number_of o.reply.refusal ≡ 0
+  yes : o.reply.number ≡ 0
   yes = sym o.told.number_is ∙ accepted
 
   answered : o.reply.settings ≡ latest number s s total
@@ -218,7 +217,7 @@ module _ {s : Settings} {p : Pictures} {d : Depths} {h₀ h : Held} {j₀ j : Li
       subst (λ (n : Settings). AllSharedNoOps (leaves n d h) cs es) answered (shared_no_op s p d h₀ h j₀ j o.reply o.promised yes (as_shared run))
 
 -- A GET alone: it writes the change of its reply through the pointer, so that what bounds the one bounds the other.
-tried_most : {promise : Trial → Type 0} {number : ℕ} {change₀ change : ℤ} (o : TriedOut promise number change₀ change) → number ≡ 0 → (most : ℕ) → nat_abs o.reply.change ≤ most → nat_abs change ≤ most
+tried_most : {promise : TrialReply → Type 0} {number : ℕ} {change₀ change : ℤ} (o : TriedOut promise number change₀ change) → number ≡ 0 → (most : ℕ) → nat_abs o.reply.change ≤ most → nat_abs change ≤ most
 tried_most o z most h = subst (λ (n : ℤ). nat_abs n ≤ most) (sym (o.told.accepted z)) h
 
 module _ {s : Settings} {p : Pictures} {d : Depths} {h : Held} {v : ℕ} {b : Block} {c : Candidate} {x : List ℕ} {number : ℕ} {change₀ change : ℤ} (o : TriedOut (GetPost s p d h v b c x) number change₀ change) (sound : Sound s p d (read_held h)) (z : number ≡ 0) (one : OneDepth b) where

@@ -4,16 +4,16 @@
 --     eight_cut     the filter of card 2 is that of card 12, cut at 255
 --     eight_same    so that where the latter is at most 255 they are one
 use Prim.Native.Nat.{ℕ, suc, ◌+◌, ◌-◌, ◌≤◌, min}
-use mathlib.Core.Path.{◌≡◌, refl, sym, ap, ◌∙◌}
+use mathlib.Core.Path.{◌≡◌, refl}
 use mathlib.Core.Bool.{cond}
 use mathlib.Core.List.{List, [], ◌∷◌}
 use native.Mathlib.Omega.{arith}
 use lib.Dec.{eqb}
+use Rattle.std.proofs.lemmas.Bool.Decides.{nat_tests}
 use lib.IntN.{ℤ, pos, negsuc, ◌+ℤ◌, ◌*ℤ◌}
 use lib.Signed.{shr_z}
 use lib.ListN.{length, get_or}
 use Rattle.model.specs.Row.{sample_in, taps1, taps2, taps3, repeated, weighted, clipped, filtered, mixed}
-use Rattle.model.proofs.Choice.{bool_cases}
 use Rattle.model.proofs.Totals.{read_same}
 
 -- ---- card 2 as it was: samples as they stand, held to 0 to 255
@@ -51,13 +51,12 @@ module _ (s : List ℕ) (eight : (i : ℕ) → get_or s i 0 ≤ 255) where
   unfolding weighted8 weighted repeated
   eight_weighted [] i = refl
   eight_weighted (t ∷ ts) i =
-      ap (λ (x : ℕ). t *ℤ pos x +ℤ weighted8 ts s (suc i)) (sym (eight_read (min (i - 3) (length s - 1))))
-      ∙ ap (λ (z : ℤ). t *ℤ pos (sample_in s (min (i - 3) (length s - 1))) +ℤ z) (eight_weighted ts (suc i))
+      rw (eight_read (min (i - 3) (length s - 1)), eight_weighted ts (suc i))
 
   eight_filtered : (ts : List ℤ) (c : ℕ) → filtered8 ts s c ≡ min (filtered ts s c) 255
   unfolding filtered
   eight_filtered ts c =
-      ap (λ (z : ℤ). clipped8 (shr_z (z +ℤ pos 32) 64)) (eight_weighted ts c) ∙ cut (shr_z (weighted ts s c +ℤ pos 32) 64)
+      rw (eight_weighted ts c) (cut (shr_z (weighted ts s c +ℤ pos 32) 64))
 
   own_cut : (c : ℕ) → get_or s c 0 ≡ min (sample_in s c) 255
   own_cut c = let h = eight c in let e = eight_read c in omega arith
@@ -65,10 +64,7 @@ module _ (s : List ℕ) (eight : (i : ℕ) → get_or s i 0 ≤ 255) where
   pub eight_cut : (c k : ℕ) → mixed8 s c k ≡ min (mixed s c k) 255
   unfolding mixed8 mixed
   eight_cut c k =
-      bool_cases (eqb k 1) (λ e. rw e (eight_filtered taps1 c))
-      (λ e. rw e (bool_cases (eqb k 2) (λ e. rw e (eight_filtered taps2 c))
-      (λ e. rw e (bool_cases (eqb k 3) (λ e. rw e (eight_filtered taps3 c))
-      (λ e. rw e (bool_cases (eqb k 0) (λ e. rw e (own_cut c)) (λ e. rw e (own_cut (c + 1)))))))))
+      grind (arith, nat_tests, eight_filtered taps1 c, eight_filtered taps2 c, eight_filtered taps3 c, own_cut c, own_cut (c + 1))
 
   pub eight_same : (c k : ℕ) → mixed s c k ≤ 255 → mixed8 s c k ≡ mixed s c k
   eight_same c k h = let e = eight_cut c k in omega arith

@@ -1,25 +1,20 @@
 -- Document 02, card 6: a block of one column or row has no line.
 use Prim.Native.Nat.{◌<◌}
-use mathlib.Core.Path.{◌≡◌, refl}
-use mathlib.Core.Bool.{Bool, true, false, ◌&&◌, ◌||◌}
-use mathlib.Core.Logic.{◌⊎◌, inl, inr}
+use mathlib.Core.Path.{◌≡◌}
+use mathlib.Core.Bool.{true, false, ◌&&◌}
+use mathlib.Core.Logic.{◌⊎◌}
 use native.Mathlib.Omega.{arith}
-use borrow.Author.Tests.{eq-eqb}
+use Rattle.std.proofs.lemmas.Bool.Decides.{nat_tests}
 use Rattle.model.specs.declared.Block.{Block}
 use Rattle.model.specs.declared.Point.{Point}
 use Rattle.model.specs.Candidates.{on_border, side_shared, line_ok}
 use Rattle.model.proofs.Choice.{bool_cases, and_left, and_right}
 use Rattle.model.proofs.Candidates.{border_inside}
 
-or_true : (a : Bool) → (a || true) ≡ true
-or_true true = refl
-or_true false = refl
-
 -- two points of a block of one column or row share that side
 one_side : (b : Block) (p q : Point) → (b.width ≡ 1) ⊎ (b.height ≡ 1) → (p.column < b.width) × (p.row < b.height) → (q.column < b.width) × (q.row < b.height) → side_shared b p q ≡ true
 unfolding side_shared
-one_side b p q (inl e) f g = rw (eq-eqb p.column 0 (omega arith), eq-eqb q.column 0 (omega arith))
-one_side b p q (inr e) f g = rw (eq-eqb p.row 0 (omega arith), eq-eqb q.row 0 (omega arith), or_true)
+one_side b p q thin f g = grind (arith, nat_tests)
 
 pub no_line : (b : Block) (p q : Point) → (b.width ≡ 1) ⊎ (b.height ≡ 1) → line_ok b p q ≡ false
 unfolding line_ok

@@ -3,7 +3,7 @@
 
 ghost use Rattle.std.specs.Prelude.{◌≡◌, true, ◌+◌, ◌*◌, ◌≤◌, ◌<◌, length};
 ghost use Rattle.model.specs.Journals.{next_index};
-ghost use Rattle.model.specs.Refusals.{number_of, record_ok, chain_ok, journal_ok, saving_then, taking_then};
+ghost use Rattle.model.specs.Refusals.{answer_number, record_ok, chain_ok, journal_ok, saving_then, taking_then};
 ghost use Rattle.validate.specs.Numbers.{sides};
 
 use model::{Block, Refusal};
@@ -24,8 +24,7 @@ fn record_ok(w: u32, h: u32, journal: &[u32], at: usize) -> bool
         width: journal[at + 4],
         height: journal[at + 5],
     };
-    let refusal = validate::own(w, h, view, block);
-    if model::number(refusal) != 0 {
+    if validate::own(w, h, view, block).is_err() {
         return false;
     }
     let end = first + (block.width as usize) * (block.height as usize);
@@ -55,14 +54,12 @@ fn chain_ok(w: u32, h: u32, journal: &[u32], newest: usize) -> bool
 }
 
 // 13 does not apply.
+#[tactic(auto, unfolding(model::specs::Refusals::journal_ok))]
 fn journal_ok(w: u32, h: u32, journal: &[u32]) -> bool
     requires { (w ≤ 4096) × (h ≤ 4096) }
     ensures { result ≡ journal_ok (sides w h) journal.now }
 {
-    if journal.len() < 1 {
-        return false;
-    }
-    chain_ok(w, h, journal, journal[0] as usize)
+    !journal.is_empty() && chain_ok(w, h, journal, journal[0] as usize)
 }
 
 // Where the next record stands: directly after the newest, or after word 0.
@@ -78,34 +75,31 @@ pub fn next_index(journal: &[u32]) -> usize
 }
 
 // 13 or 11, the first that applies: what SET tests of the journal.
-pub fn saving(w: u32, h: u32, block: Block, journal: &[u32]) -> Refusal
+pub fn saving(w: u32, h: u32, block: Block, journal: &[u32]) -> Result<(), Refusal>
     requires { (w ≤ 4096) × ((h ≤ 4096) × ((block.width ≤ 4096) × (block.height ≤ 4096))) }
-    ensures { number_of result ≡ saving_then (sides w h) block journal.now 0 }
+    ensures { answer_number result ≡ saving_then (sides w h) block journal.now 0 }
 {
     if !journal_ok(w, h, journal) {
-        return Refusal::Journal;
+        return Err(Refusal::Journal);
     }
     let next = next_index(journal);
     let words = 6 + (block.width as usize) * (block.height as usize);
-    if journal.len() - next < words {
-        return Refusal::JournalFull;
+    if journal.len() - next < words || 4294967295 < next {
+        return Err(Refusal::JournalFull);
     }
-    if 4294967295 < next {
-        return Refusal::JournalFull;
-    }
-    Refusal::None
+    Ok(())
 }
 
 // 13 or 12, the first that applies: what TAKE BACK tests of the journal.
-pub fn taking(w: u32, h: u32, journal: &[u32]) -> Refusal
+pub fn taking(w: u32, h: u32, journal: &[u32]) -> Result<(), Refusal>
     requires { (w ≤ 4096) × (h ≤ 4096) }
-    ensures { number_of result ≡ taking_then (sides w h) journal.now 0 }
+    ensures { answer_number result ≡ taking_then (sides w h) journal.now 0 }
 {
     if !journal_ok(w, h, journal) {
-        return Refusal::Journal;
+        return Err(Refusal::Journal);
     }
     if journal[0] == 0 {
-        return Refusal::NothingToTakeBack;
+        return Err(Refusal::NothingToTakeBack);
     }
-    Refusal::None
+    Ok(())
 }

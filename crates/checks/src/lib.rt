@@ -4,10 +4,11 @@
 ghost use Rattle.model.specs.Planes.{pictures, depths, view, held};
 ghost use Rattle.model.specs.Promises.{CheckPost};
 
-use model::{Report, Settings};
+use model::{Refusal, Report, Settings};
 use validate::{Lengths, ViewLengths};
 
 // Compares every held entry with a fresh drawing, then the total.
+#[tactic(auto, using(crate::proofs::Ways::refused, crate::proofs::Ways::accepted))]
 pub fn check(
     settings: Settings,
     left: &[u16],
@@ -24,7 +25,7 @@ pub fn check(
     rightLimits: &[i16],
     rightMarks: &[u8],
     combined: &[u16],
-) -> Report
+) -> Result<Report, Refusal>
     ensures { CheckPost settings
         (pictures left.now right.now reference.now)
         (depths leftDepths.now rightDepths.now)
@@ -32,8 +33,8 @@ pub fn check(
         (view rightSamples.now rightFronts.now rightLimits.now rightMarks.now)
         combined.now) result }
 {
-    let leftTable = settings.left;
-    let rightTable = settings.right;
+    let leftTable = &settings.left;
+    let rightTable = &settings.right;
     let tear = settings.tear;
     let lengths = Lengths {
         left: ViewLengths {
@@ -55,24 +56,21 @@ pub fn check(
         reference: reference.len(),
         combined: combined.len(),
     };
-    let first = validate::common(
+    validate::common(
         settings.w,
         settings.h,
-        &leftTable,
-        &rightTable,
+        leftTable,
+        rightTable,
         settings.share,
         tear,
         lengths,
-    );
-    if model::number(first) != 0 {
-        return Report::Refused(first);
-    }
+    )?;
     let squares = sums::squares();
     let found = scan::walk(
         settings.w as usize,
         settings.h as usize,
-        &leftTable,
-        &rightTable,
+        leftTable,
+        rightTable,
         settings.share,
         settings.tolerance,
         tear,
@@ -92,5 +90,5 @@ pub fn check(
         rightMarks,
         combined,
     );
-    scan::verdict(found, settings.total)
+    Ok(scan::verdict(found, settings.total))
 }

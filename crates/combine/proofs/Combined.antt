@@ -1,6 +1,6 @@
 -- The combined picture after one row of one view was committed.
---     view_kept, part_in, rows_reach, part_rows     the rows as they are lent
---     row_set                                       with the span combined anew, the row is what the two views hold
+--     part_in, rows_reach, part_rows     the rows as they are lent
+--     row_set                            with the span combined anew, the row is what the two views hold
 use Prim.Native.Nat.{ℕ, ◌+◌, ◌-◌, ◌*◌, ◌<◌, ◌≤◌}
 use mathlib.Core.Path.{◌≡◌, sym, ap, subst, ◌∙◌}
 use mathlib.Core.Bool.{Bool}
@@ -8,12 +8,11 @@ use mathlib.Core.Logic.{⊎_elim, ◌⊎◌, inl, inr}
 use mathlib.Core.List.{List}
 use native.Mathlib.Omega.{arith}
 use lib.ListN.{length, get_or, take, drop}
-use lib.IntN.{ℤ}
 use Rattle.model.specs.declared.Tear.{Tear}
 use Rattle.model.specs.declared.Pixel.{Pixel}
 use Rattle.model.specs.Lists.{row_of}
 use Rattle.model.specs.Row.{greatest}
-use Rattle.model.specs.Planes.{View, view, read_all, view_rows}
+use Rattle.model.specs.Planes.{View, read_all, view_rows}
 use Rattle.model.specs.Marks.{mark_bytes}
 use Rattle.model.proofs.Choice.{lt_or_le}
 use Rattle.model.proofs.Lists.{length-list_of, get_or-list_of, list_of_lem, length-row}
@@ -26,7 +25,7 @@ use Rattle.marks.proofs.Held.{held_most}
 use Rattle.sums.specs.Sides.{paired}
 use Rattle.sums.proofs.Sides.{paired_most}
 use Rattle.blend.specs.Blend.{Reaches, combined_part}
-use Rattle.commit.specs.Commit.{RowIn, SoundRow, RowCommitted, held_at, held_in}
+use Rattle.commit.specs.Commit.{SoundRow, RowCommitted, held_at, held_in}
 use Rattle.commit.proofs.Planes.{same_row}
 use Rattle.combine.specs.Combine.{combined_row, ViewIn, RowSet}
 
@@ -56,10 +55,6 @@ inside : (from to w : ℕ) → from ≤ to → to ≤ w → from + (to - from) �
 inside from to w h k = omega arith
 
 -- ---- the rows as they are lent
-
--- row y lies within planes that keep their lengths
-pub view_kept : {w y : ℕ} {texture d s f : List ℕ} {e : List ℤ} {m : List ℕ} (s' f' m' : List ℕ) → RowIn w y texture d (view s f e m) → length s' ≡ length s → length f' ≡ length f → length m' ≡ length m → ViewIn w y s' f' m'
-view_kept s' f' m' size hs hf hm = record { samples = rw hs size.samples; fronts = rw hf size.fronts; marks = rw hm size.marks }
 
 pub part_in : (base from to w n : ℕ) → from ≤ to → to ≤ w → base + w ≤ n → base + from + (to - from) ≤ n
 part_in base from to w n h k l = omega arith

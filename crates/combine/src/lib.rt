@@ -15,6 +15,7 @@ use model::{Candidate, Tear};
 
 // Writes the combined samples of the entries `from` up to `to` of row y. The first three planes are those of the view that `right` names,
 // the second three the other view's.
+#[tactic(auto, using(crate::proofs::Combined::part_in, crate::proofs::Combined::rows_reach))]
 fn combine_row(
     right: bool,
     share: u8,
@@ -142,8 +143,7 @@ pub fn set_rows(
         combined.old combined.new }
 {
     fill::start(candidate, room);
-    let mut j = 0;
-    while j < height {
+    for j in 0..height {
         fill::fill_rows(candidate, bytes, width, j, 1, room);
         let chosen = fill::row_of(candidate, bytes, width, j, room);
         set_row(
@@ -167,6 +167,5 @@ pub fn set_rows(
             marks2,
             combined,
         );
-        j += 1;
     }
 }

@@ -50,15 +50,8 @@ fn draw_marked(
     marks::put_marks(marks, at, flags);
 }
 
-// Room for the marks of a row.
-fn room() -> [u8; 4096]
-    ensures { 4096 ≡ length result }
-{
-    [0u8; 4096]
-}
-
-// The same with room for a whole row: a stretch of more than 64 positions is rare.
-fn draw_long(
+// The same with room for the marks of N positions.
+fn draw_in<const N: usize>(
     tear: Tear,
     right: bool,
     table: &[u16; 256],
@@ -72,11 +65,12 @@ fn draw_long(
     fronts: &mut [u8],
     marks: &mut [u8],
 )
-    requires { Drawable tear right table.now texture.now depths.now columns edge start at samples.old fronts.old marks.old }
+    requires drawable { Drawable tear right table.now texture.now depths.now columns edge start at samples.old fronts.old marks.old }
+    requires samples_bound { (length samples.old ≤ N) × (N ≤ 4096) }
     ensures { PartDrawn right (line tear table.now (seen right texture.now) (seen right depths.now)) columns edge start at (length samples.old)
         marks.old samples.new fronts.new marks.new }
 {
-    let mut flags = room();
+    let mut flags = planes::room::<u8, N>(0);
     let n = samples.len();
     draw_marked(
         tear,
@@ -95,7 +89,7 @@ fn draw_long(
     );
 }
 
-// The same with as much room as the stretch asks for.
+// The same with as much room as the stretch asks for: one of more than 64 positions is rare.
 fn draw_stretch(
     tear: Tear,
     right: bool,
@@ -114,33 +108,20 @@ fn draw_stretch(
     ensures { PartDrawn right (line tear table.now (seen right texture.now) (seen right depths.now)) columns edge start at (length samples.old)
         marks.old samples.new fronts.new marks.new }
 {
-    let n = samples.len();
-    if 64 < n {
-        draw_long(
+    if samples.len() <= 64 {
+        draw_in::<64>(
             tear, right, table, texture, depths, columns, edge, start, at, samples, fronts, marks,
         );
-        return;
+    } else {
+        draw_in::<4096>(
+            tear, right, table, texture, depths, columns, edge, start, at, samples, fronts, marks,
+        );
     }
-    let mut flags = [0u8; 64];
-    draw_marked(
-        tear,
-        right,
-        table,
-        texture,
-        depths,
-        columns,
-        edge,
-        start,
-        at,
-        samples,
-        fronts,
-        marks,
-        &mut flags[..n],
-    );
 }
 
 // Draws the span from `low` to the edge of row y from the columns below `columns`, and answers its entries. Of samples and fronts only the
 // span's own stretch is lent for writing.
+#[tactic(auto, using(model::proofs::Views::length_seen, model::proofs::Views::seen_seen, row::proofs::Below::first_within, row::proofs::Wholes::ready_seen))]
 fn redraw(
     tear: Tear,
     right: bool,
@@ -192,6 +173,7 @@ fn redraw(
 }
 
 // The same for planes: the row's texture, depths and marks are lent.
+#[tactic(auto, using(model::proofs::Views::length_seen, row::proofs::Wholes::ready_seen, planes::proofs::Splices::part_row))]
 fn redraw_row(
     tear: Tear,
     right: bool,

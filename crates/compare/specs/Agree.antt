@@ -3,8 +3,18 @@ use Rattle.std.specs.Prelude.{ℕ, ◌+◌, ◌*◌, ◌<◌, ◌≤◌, Bool, �
 use Rattle.std.specs.Int.Signed.{le_z}
 use Rattle.model.specs.Lists.{row_of, entry_at}
 use Rattle.model.specs.Marks.{mark_bytes}
-use Rattle.model.specs.Planes.{View, Held}
+use Rattle.model.specs.Planes.{View, view, Held}
 use Rattle.model.specs.Reports.{same_mark}
+use Rattle.compare.specs.declared.HeldView.{HeldView}
+use Rattle.compare.specs.declared.DrawnRow.{DrawnRow}
+
+-- the planes that are held of a view
+abbrev pub held_planes : HeldView → View
+held_planes v = view v.samples.now v.fronts.now v.limits.now v.marks.now
+
+-- the rows that are drawn of a view
+abbrev pub drawn_planes : DrawnRow → View
+drawn_planes r = view r.samples r.fronts r.limits r.marks
 
 -- two signed numbers are equal
 abbrev pub same_value : ℤ → ℤ → Bool

@@ -4,7 +4,8 @@
 --     sum_change, sum_range        on a sound session their difference is the change, and in range
 --     decided_early, decided_late  the decision, before the trial and after it
 use Prim.Native.Nat.{ℕ, ◌*◌}
-use mathlib.Core.Path.{◌≡◌, sym, ap, ◌∙◌}
+use mathlib.Core.Path.{◌≡◌, refl, sym, ap, subst, ◌∙◌}
+use Rattle.std.specs.Prelude.{Result, Err}
 use mathlib.Core.Bool.{Bool, true, false}
 use mathlib.Core.List.{List}
 use native.Mathlib.Omega.{arith}
@@ -13,6 +14,7 @@ use lib.IntN.{ℤ, pos, sub_ℕ, ◌+ℤ◌, nat_abs}
 use Rattle.model.specs.declared.Settings.{Settings}
 use Rattle.model.specs.declared.Block.{Block}
 use Rattle.model.specs.declared.Candidate.{Candidate}
+use Rattle.model.specs.declared.Refusal.{Refusal}
 use Rattle.model.specs.Combined.{worst}
 use Rattle.model.specs.Planes.{Pictures, Depths, Held, area, table_of, with_total, read_held}
 use Rattle.model.specs.Views.{is_right}
@@ -25,13 +27,14 @@ use Rattle.model.proofs.Fresh.{fresh_total_lem, fresh_total_total}
 use Rattle.model.proofs.Written.{written_total}
 use Rattle.model.proofs.Locality.{sized_written}
 use Rattle.model.proofs.Totals.{total_most}
-use Rattle.model.proofs.Refusals.{Tables, table_yes, Common, Inside, common_facts, own_facts, early_common, early_own, call_early, call_late}
+use Rattle.model.proofs.Refusals.{some_number, Tables, table_yes, Common, Inside, common_facts, own_facts, early_common, early_own, call_early, call_late}
 use Rattle.model.proofs.Candidates.{candidate_filled}
 use Rattle.signed.proofs.Totals.{change_is, change_range}
 use Rattle.trial.specs.Trial.{Sized, Fits, BlockTrial}
 use Rattle.trial.proofs.Blocks.{block_small}
 use Rattle.trial.proofs.Sound.{around_of, own_of, trial_sound}
 use Rattle.judge.specs.declared.Decision.{Decision}
+use Rattle.judge.specs.Judged.{Verdict, verdict}
 use Rattle.decide.specs.Decided.{Tried, Decided}
 use Rattle.judge.specs.Judged.{Judged}
 
@@ -102,23 +105,28 @@ module _ (s : Settings) (p : Pictures) (d : Depths) (h : Held) (v : ℕ) (b : Bl
 
 -- ---- GET
 
-module _ (s : Settings) (p : Pictures) (d : Depths) (h : Held) (v : ℕ) (b : Block) (c : Candidate) (x : List ℕ) (r : Decision) where
-  pub decided_early : number_of r.refusal ≡ early_number s p d h v b c (length x) → (number_of r.refusal ≡ 0 → ⊥) → r.change ≡ pos 0 → r.total ≡ s.total → Decided s p d h v b c x r
-  decided_early e ne q t =
-      let late : early_number s p d h v b c (length x) ≡ 0 → ⊥ = λ z. ne (e ∙ z) in
+module _ (s : Settings) (p : Pictures) (d : Depths) (h : Held) (v : ℕ) (b : Block) (c : Candidate) (x : List ℕ) where
+  -- refused before the trial
+  early_refused : (e : Refusal) → number_of e ≡ early_number s p d h v b c (length x) → Decided s p d h v b c x (verdict s.total (Err e))
+  early_refused e q =
+      let late : early_number s p d h v b c (length x) ≡ 0 → ⊥ = λ z. some_number e (q ∙ z) in
       record {
         answer = record {
           found = pos 0;
-          number = e ∙ sym (call_early s p d h v b c (length x) (pos 0) 0 late);
-          refused = λ _. q;
-          change = λ _. q;
+          number = q ∙ sym (call_early s p d h v b c (length x) (pos 0) 0 late);
+          refused = λ _. refl;
+          change = λ z. absurd (some_number e z);
           decided = λ z. absurd (late z);
           change_in_range = λ z. absurd (late z);
         };
-        moved = λ z. absurd (ne z);
-        kept = λ _. t;
+        moved = λ z. absurd (some_number e z);
+        kept = λ _. refl;
       }
 
+  pub decided_early : (e : Refusal) → number_of e ≡ early_number s p d h v b c (length x) → (r : Result Decision Refusal) → Err e ≡ r → Decided s p d h v b c x (verdict s.total r)
+  decided_early e q r is = subst (λ (r : Result Decision Refusal). Decided s p d h v b c x (verdict s.total r)) is (early_refused e q)
+
+module _ (s : Settings) (p : Pictures) (d : Depths) (h : Held) (v : ℕ) (b : Block) (c : Candidate) (x : List ℕ) (r : Verdict) where
   pub decided_late : {old new : ℕ} → early_number s p d h v b c (length x) ≡ 0 → Tried s p d h v b (filled b c x) old new → Judged s.total old new (worst * area s) 0 r → Decided s p d h v b c x r
   unfolding in_range
   decided_late {old} {new} e t j =

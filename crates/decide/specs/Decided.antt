@@ -4,15 +4,14 @@ use Rattle.model.specs.declared.Tear.{Tear}
 use Rattle.model.specs.declared.Settings.{Settings}
 use Rattle.model.specs.declared.Block.{Block}
 use Rattle.model.specs.declared.Candidate.{Candidate}
-use Rattle.model.specs.declared.Trial.{Trial}
 use Rattle.model.specs.Combined.{worst}
 use Rattle.model.specs.Planes as planes
 use Rattle.model.specs.Planes.{Pictures, Depths, Held, held, read_held}
 use Rattle.model.specs.Fresh.{fresh, fresh_total}
 use Rattle.model.specs.Blocks.{written}
-use Rattle.model.specs.Refusals.{number_of}
+use Rattle.model.specs.Replies.{TrialReply}
 use Rattle.model.specs.Promises.{GetPost}
-use Rattle.judge.specs.declared.Decision.{Decision}
+use Rattle.judge.specs.Judged.{Verdict}
 
 -- settings, and held planes, from what a call is lent
 abbrev pub settings_of : ℕ → ℕ → List ℕ → List ℕ → ℕ → ℕ → Tear → ℕ → Settings
@@ -29,11 +28,11 @@ pub record Tried (s : Settings) (p : Pictures) (d : Depths) (h : Held) (v : ℕ)
   pub change : read_held h ≡ fresh s p d → fresh_total s p (written s v b c d) + old ≡ fresh_total s p d + new
 
 -- what GET answers of a decision
-abbrev pub answer_of : Decision → Trial
-answer_of r = record { refusal = r.refusal; change = r.change }
+abbrev pub answer_of : Verdict → TrialReply
+answer_of r = record { number = r.number; change = r.change }
 
 -- The decision is what GET promises to answer, with the total as it is once the candidate is written, or as it was where the call is refused.
-pub record Decided (s : Settings) (p : Pictures) (d : Depths) (h : Held) (v : ℕ) (b : Block) (c : Candidate) (x : List ℕ) (r : Decision) : Type 0 where
+pub record Decided (s : Settings) (p : Pictures) (d : Depths) (h : Held) (v : ℕ) (b : Block) (c : Candidate) (x : List ℕ) (r : Verdict) : Type 0 where
   pub answer : GetPost s p d h v b c x (answer_of r)
-  pub moved : number_of r.refusal ≡ 0 → r.total ≡ nat_abs (pos s.total +ℤ r.change)
-  pub kept : (number_of r.refusal ≡ 0 → ⊥) → r.total ≡ s.total
+  pub moved : r.number ≡ 0 → r.total ≡ nat_abs (pos s.total +ℤ r.change)
+  pub kept : (r.number ≡ 0 → ⊥) → r.total ≡ s.total

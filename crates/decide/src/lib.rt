@@ -8,11 +8,12 @@ ghost use Rattle.model.specs.Planes.{pictures, depths};
 ghost use Rattle.model.specs.Candidates.{filled};
 ghost use Rattle.model.specs.Refusals.{early_number};
 ghost use Rattle.fill.specs.Rows.{is_lent};
+ghost use Rattle.judge.specs.Judged.{verdict};
 ghost use Rattle.decide.specs.Decided.{settings_of, held_of, Tried, Decided};
 
 use judge::Decision;
-use model::{Block, Candidate, Tear};
-use strips::Sums;
+use model::{Block, Candidate, Refusal, Tear};
+use strips::{Counterpart, Source, Sums};
 use validate::{Lengths, ViewLengths};
 
 // View 1 is the right view.
@@ -67,51 +68,43 @@ fn try_lent(
     let width = block.width as usize;
     let height = block.height as usize;
     if is_right(view) {
-        return trial::trial_block(
+        let v = Source {
             tear,
-            true,
-            rightTable,
+            table: rightTable,
+            texture: right,
+            depths: rightDepths,
+            limits: rightLimits,
+        };
+        let o = Counterpart {
+            right: true,
             share,
             tolerance,
-            columns,
-            rows,
-            column,
-            row,
-            width,
-            height,
-            right,
-            rightDepths,
-            rightLimits,
-            bytes,
-            leftSamples,
-            leftFronts,
-            leftMarks,
+            samples: leftSamples,
+            fronts: leftFronts,
+            marks: leftMarks,
             combined,
             reference,
-        );
+        };
+        return trial::trial_block(v, o, columns, rows, column, row, width, height, bytes);
     }
-    trial::trial_block(
+    let v = Source {
         tear,
-        false,
-        leftTable,
+        table: leftTable,
+        texture: left,
+        depths: leftDepths,
+        limits: leftLimits,
+    };
+    let o = Counterpart {
+        right: false,
         share,
         tolerance,
-        columns,
-        rows,
-        column,
-        row,
-        width,
-        height,
-        left,
-        leftDepths,
-        leftLimits,
-        bytes,
-        rightSamples,
-        rightFronts,
-        rightMarks,
+        samples: rightSamples,
+        fronts: rightFronts,
+        marks: rightMarks,
         combined,
         reference,
-    )
+    };
+    trial::trial_block(v, o, columns, rows, column, row, width, height, bytes)
 }
 
 // The same for a candidate whose rows are made.
@@ -161,52 +154,46 @@ fn try_made(
     let width = block.width as usize;
     let height = block.height as usize;
     if is_right(view) {
-        return trial::trial_made(
+        let v = Source {
             tear,
-            true,
-            rightTable,
+            table: rightTable,
+            texture: right,
+            depths: rightDepths,
+            limits: rightLimits,
+        };
+        let o = Counterpart {
+            right: true,
             share,
             tolerance,
-            columns,
-            rows,
-            column,
-            row,
-            width,
-            height,
-            right,
-            rightDepths,
-            rightLimits,
-            candidate,
-            bytes,
-            leftSamples,
-            leftFronts,
-            leftMarks,
+            samples: leftSamples,
+            fronts: leftFronts,
+            marks: leftMarks,
             combined,
             reference,
+        };
+        return trial::trial_made(
+            v, o, columns, rows, column, row, width, height, candidate, bytes,
         );
     }
-    trial::trial_made(
+    let v = Source {
         tear,
-        false,
-        leftTable,
+        table: leftTable,
+        texture: left,
+        depths: leftDepths,
+        limits: leftLimits,
+    };
+    let o = Counterpart {
+        right: false,
         share,
         tolerance,
-        columns,
-        rows,
-        column,
-        row,
-        width,
-        height,
-        left,
-        leftDepths,
-        leftLimits,
-        candidate,
-        bytes,
-        rightSamples,
-        rightFronts,
-        rightMarks,
+        samples: rightSamples,
+        fronts: rightFronts,
+        marks: rightMarks,
         combined,
         reference,
+    };
+    trial::trial_made(
+        v, o, columns, rows, column, row, width, height, candidate, bytes,
     )
 }
 
@@ -334,12 +321,12 @@ pub fn decide<'a>(
     block: Block,
     candidate: Candidate,
     bytes: &[u8],
-) -> Decision
+) -> Result<Decision, Refusal>
     ensures { Decided (settings_of w h leftTable.now rightTable.now share tolerance tear total)
         (pictures left.now right.now reference.now)
         (depths leftDepths.now rightDepths.now)
         (held_of leftSamples.now leftFronts.now leftLimits.now leftMarks.now rightSamples.now rightFronts.now rightLimits.now rightMarks.now combined.now)
-        view block candidate bytes.now result }
+        view block candidate bytes.now (verdict total result) }
 {
     let lengths = Lengths {
         left: ViewLengths {
@@ -361,12 +348,9 @@ pub fn decide<'a>(
         reference: reference.len(),
         combined: combined.len(),
     };
-    let common = validate::common(w, h, leftTable, rightTable, share, tear, lengths);
-    let before = validate::with_block(common, w, h, view, block);
-    let first = validate::with_candidate(before, block, candidate, bytes.len());
-    if model::number(first) != 0 {
-        return judge::refused(first, total);
-    }
+    validate::common(w, h, leftTable, rightTable, share, tear, lengths)?;
+    validate::own(w, h, view, block)?;
+    candidates::candidate_refusal(block, candidate, bytes.len())?;
     let sums = try_candidate(
         w,
         h,

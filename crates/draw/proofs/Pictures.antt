@@ -1,67 +1,51 @@
 -- The combined picture row by row is that of the fresh drawing.
+--     row_combined                    row y, combined in its place
 --     picture_none, picture_next      the rows combined so far
 --     picture_whole, total_whole      all rows combined, from the planes of the fresh drawing: its combined picture, and its total
-use Prim.Native.Nat.{ℕ, ◌+◌, ◌-◌, ◌*◌, ◌^◌, ◌≤◌, ◌<◌}
+use Prim.Native.Nat.{ℕ, ◌+◌, ◌-◌, ◌*◌, ◌≤◌, ◌<◌}
 use mathlib.Core.Path.{◌≡◌, refl, sym, ap, subst, ◌∙◌}
 use mathlib.Core.Bool.{Bool, true, false}
 use mathlib.Core.Logic.{⊎_elim}
-use mathlib.Core.List.{List, ◌++◌}
+use mathlib.Core.List.{List}
 use native.Mathlib.Omega.{arith}
-use native.Mathlib.Nat.{mul_comm, mul-suc, mul-le-mul, not-suc-le-zero}
+use native.Mathlib.Nat.{mul_comm, mul-suc, not-suc-le-zero}
 use native.Mathlib.Numerals.{add-one}
-use lib.ListN.{length, get_or, take, drop}
+use lib.ListN.{length, get_or}
 use Rattle.model.specs.declared.Settings.{Settings}
 use Rattle.model.specs.declared.Pixel.{Pixel}
 use Rattle.model.specs.Lists.{list_of, row_of, sum_to}
 use Rattle.model.specs.Row.{read, sample_in}
-use Rattle.model.specs.Marks.{mark_bytes}
 use Rattle.model.specs.Combined.{worst, combined_of, square_error}
 use Rattle.model.specs.Planes.{Pictures, Depths, area, read_view}
 use Rattle.model.specs.Fresh.{fresh_row, fresh_view, shown_at, fresh_sample, fresh_combined, fresh_total}
 use Rattle.model.proofs.Choice.{lt_or_le}
-use Rattle.model.proofs.Lists.{rows_apart, plane_ext, list_same, get_or-list_of}
+use Rattle.model.proofs.Lists.{plane_ext, list_same, length-list_of, get_or-list_of}
 use Rattle.model.proofs.Sums.{sum_next, sum_same}
 use Rattle.model.proofs.Fresh.{DepthsSized, row_fresh_combined, length-fresh_combined}
 use Rattle.model.proofs.Totals.{read_same, error_at, total_rows, sample_most}
 use Rattle.model.proofs.Readings.{sample_in_row, samples_read}
-use Rattle.planes.proofs.Splices.{part_row, part_length}
-use Rattle.marks.specs.Puts.{held_pixel}
+use Rattle.planes.specs.Parts.{splice}
+use Rattle.planes.proofs.Splices.{part_row, part_length, row_whole, row_other_whole}
 use Rattle.marks.proofs.Held.{held_fresh}
 use Rattle.sums.specs.Sides.{paired}
-use Rattle.blend.specs.Blend.{Reaches, combined_part}
-use Rattle.draw.proofs.Planes.{part, back_row, back_other}
-use Rattle.draw.specs.Combination.{held_rows, SideIn, SideOf, combined_row, row_error, RowCombined, PictureCombined}
+use Rattle.blend.specs.Blend.{combined_part}
+use Rattle.draw.proofs.Planes.{part}
+use Rattle.draw.specs.Combination.{held_rows, combined_row, row_error, PictureCombined}
 
-pub side_in : (w h y : ℕ) (s f m : List ℕ) → SideOf w h s f m → y < h → SideIn w y s f m
-side_in w h y s f m p k =
-    let a = rows_apart w y h k in
-    let b = rows_apart (mark_bytes w) y h k in
-    let e = mul_comm w h in
-    let g = mul_comm (mark_bytes w) h in
-    record { samples = omega (arith, p.samples); fronts = omega (arith, p.fronts); marks = omega (arith, p.marks) }
+-- row y of the picture is combined, and every other row is as it was
+pub record RowCombined (share tolerance w y : ℕ) (left right : ℕ → ℕ → Pixel) (c c' : List ℕ) : Type 0 where
+  pub row_is : row_of c' w y ≡ combined_row share tolerance w left right y
+  pub others : (k : ℕ) → (k ≡ y → ⊥) → row_of c' w k ≡ row_of c w k
 
--- ---- row y, lent as parts
-
--- the parts reach as far as the part of the picture
-pub parts_reach : (w y : ℕ) (c s f m : List ℕ) → SideIn w y s f m → y * w + w ≤ length c → Reaches (0 + length (part c w y)) (part s w y) (part f w y) (part m (mark_bytes w) y)
-parts_reach w y c s f m h k =
-    let n : length (part c w y) ≡ w = part_length c (y * w) w k in
-    record {
-      samples = omega (arith, part_length s (y * w) w h.samples);
-      fronts = omega (arith, part_length f (y * w) w h.fronts);
-      marks = omega (arith, part_length m (y * mark_bytes w) (mark_bytes w) h.marks);
-    }
-
--- row y of a picture that got its combined part back
-pub row_combined :
-    (share tolerance w y : ℕ) (s₀ f₀ m₀ s₁ f₁ m₁ c xs : List ℕ) → y * w + w ≤ length c → length xs ≡ length (part c w y) →
-    xs ≡ combined_part false share tolerance (held_pixel (part s₀ w y) (part f₀ w y) (part m₀ (mark_bytes w) y)) (held_pixel (part s₁ w y) (part f₁ w y) (part m₁ (mark_bytes w) y)) 0 (length (part c w y)) →
-    RowCombined share tolerance w y (held_rows w s₀ f₀ m₀) (held_rows w s₁ f₁ m₁) c (take (y * w) c ++ (xs ++ drop (y * w + w - y * w) (drop (y * w) c)))
-unfolding combined_row
-row_combined share tolerance w y s₀ f₀ m₀ s₁ f₁ m₁ c xs fits long e =
-    let n : length (part c w y) ≡ w = part_length c (y * w) w fits in
-    let g = rw (n, part_row s₀ w y, part_row f₀ w y, part_row m₀ (mark_bytes w) y, part_row s₁ w y, part_row f₁ w y, part_row m₁ (mark_bytes w) y) at e in
-    record { row_is = back_row 0 c w y xs fits (long ∙ n) ∙ g; others = back_other 0 c w y xs fits (long ∙ n) }
+pub row_combined : (share tolerance w y : ℕ) (left right : ℕ → ℕ → Pixel) (c c' : List ℕ) → y * w + w ≤ length c → c' ≡ splice c (y * w + 0) (combined_part false share tolerance (left y) (right y) 0 (w - 0)) → RowCombined share tolerance w y left right c c'
+unfolding combined_row combined_part
+row_combined share tolerance w y left right c c' fits e =
+    let xs : List ℕ = list_of (λ i. paired false share tolerance (left y (0 + i)) (right y (0 + i))) w in
+    let wide : length xs ≡ w = length-list_of _ w in
+    let n : w - 0 ≡ w = omega arith in
+    let at : y * w + 0 ≡ y * w = omega arith in
+    let is : c' ≡ splice c (y * w) xs = rw (n, at) at e in
+    record { row_is = rw is (row_whole 0 c w y xs fits wide); others = λ k ne. rw is (row_other_whole 0 c w y k xs fits wide ne) }
 
 -- the sum of the squared errors of row y, from its parts
 pub row_error_lem :
@@ -95,13 +79,6 @@ module _ {share tolerance w : ℕ} {left right : ℕ → ℕ → Pixel} {referen
         total = omega (arith, n, p.total);
         most = omega (arith, p.most, f.1, m);
       }
-
--- a total and one row more stay far below 64 bits
-pub picture_most : {w y total x r : ℕ} → total ≤ worst * w * y → x ≡ r → r ≤ worst * w → w ≤ 4096 → y ≤ 4096 → total + x < 2 ^ 64
-picture_most {w} {y} h e k hw hy =
-    let a : worst * w ≤ 4286582784 = omega arith in
-    let b : worst * w * y ≤ 4286582784 * 4096 = mul-le-mul a hy in
-    omega arith
 
 -- ---- the fresh drawing
 

@@ -1,14 +1,11 @@
 -- Planes drawn row by row are the fresh drawing.
---     part_drawn        row y of a plane that got its drawn row back
---     view_none, view_next      the rows drawn so far
+--     row_drawn         row y of planes that got their drawn rows back
 --     view_whole        all rows drawn: the planes of the fresh drawing
-use Prim.Native.Nat.{ℕ, ◌+◌, ◌-◌, ◌*◌, ◌≤◌, ◌<◌}
-use mathlib.Core.Path.{◌≡◌, refl, sym, ap, subst, ◌∙◌}
+use Prim.Native.Nat.{ℕ, ◌+◌, ◌-◌, ◌*◌, ◌≤◌}
+use mathlib.Core.Path.{◌≡◌, sym, ap, ◌∙◌}
 use mathlib.Core.Bool.{Bool}
-use mathlib.Core.Logic.{⊎_elim}
 use mathlib.Core.List.{List, ◌++◌}
-use native.Mathlib.Omega.{arith}
-use native.Mathlib.Nat.{mul_comm, not-suc-le-zero}
+use native.Mathlib.Nat.{mul_comm}
 use lib.ListN.{length, take, drop}
 use lib.IntN.{ℤ, pos}
 use Rattle.model.specs.declared.Tear.{Tear}
@@ -17,55 +14,15 @@ use Rattle.model.specs.Lists.{row_of}
 use Rattle.model.specs.Row.{line}
 use Rattle.model.specs.Views.{view_row}
 use Rattle.model.specs.Marks.{mark_bytes, pack_row}
-use Rattle.model.specs.Planes.{Pictures, Depths, View, view, view_rows, table_of, texture_of, depths_of}
+use Rattle.model.specs.Planes.{Pictures, Depths, View, view, table_of, texture_of, depths_of}
 use Rattle.model.specs.Fresh.{fresh_row, fresh_view}
-use Rattle.model.proofs.Choice.{lt_or_le}
-use Rattle.model.proofs.Lists.{rows_apart, plane_ext}
+use Rattle.model.proofs.Lists.{plane_ext}
 use Rattle.model.proofs.Fresh.{DepthsSized, row_fresh_samples, row_fresh_fronts, row_fresh_limits, row_fresh_marks, length-fresh_samples, length-fresh_fronts, length-fresh_limits, length-fresh_marks}
 use Rattle.planes.specs.Parts.{splice}
 use Rattle.planes.proofs.Splices.{row_whole, row_other_whole, put_back, part_row, part_length}
 use Rattle.planes.proofs.Views.{view_same}
-use Rattle.row.specs.Drawing.{Ready, Drawn}
-use Rattle.draw.specs.Drawn.{Table, drawn_row, PlanesIn, PlanesOf, RowDrawn, ViewDrawn}
-
--- row y lies within planes of h rows
-pub row_in : (w h y : ℕ) (texture depths : List ℕ) (v : View) → PlanesOf w h texture depths v → y < h → PlanesIn w y texture depths v
-row_in w h y texture depths v p k =
-    let a = rows_apart w y h k in
-    let b = rows_apart (mark_bytes w) y h k in
-    let e = mul_comm w h in
-    let f = mul_comm (mark_bytes w) h in
-    record {
-      texture_in = omega (arith, p.texture_there);
-      depths_in = omega (arith, p.depths_there);
-      samples_in = omega (arith, p.samples_of);
-      fronts_in = omega (arith, p.fronts_of);
-      limits_in = omega (arith, p.limits_of);
-      marks_in = omega (arith, p.marks_there);
-    }
-
--- planes that kept their lengths
-pub record Kept (v v' : View) : Type 0 where
-  pub samples : length v'.samples ≡ length v.samples
-  pub fronts : length v'.fronts ≡ length v.fronts
-  pub limits : length v'.limits ≡ length v.limits
-  pub marks : length v'.marks ≡ length v.marks
-
-pub kept_all : (v : View) → Kept v v
-kept_all v = record { samples = refl; fronts = refl; limits = refl; marks = refl }
-
-pub kept_in : (w h y : ℕ) (texture depths : List ℕ) {v v' : View} → Kept v v' → PlanesOf w h texture depths v → y < h → PlanesIn w y texture depths v'
-kept_in w h y texture depths {v} {v'} k p l =
-    row_in w h y texture depths v'
-    (record {
-      texture_there = p.texture_there;
-      depths_there = p.depths_there;
-      samples_of = k.samples ∙ p.samples_of;
-      fronts_of = k.fronts ∙ p.fronts_of;
-      limits_of = k.limits ∙ p.limits_of;
-      marks_there = k.marks ∙ p.marks_there;
-    })
-    l
+use Rattle.row.specs.Drawing.{Drawn}
+use Rattle.draw.specs.Drawn.{drawn_row, PlanesIn, PlanesOf, RowDrawn, ViewDrawn}
 
 -- a plane that got row y back
 module _ {A : Type 0} (z : A) (p : List A) (w y : ℕ) (ys : List A) (fits : y * w + w ≤ length p) (wide : length ys ≡ w) where
@@ -81,17 +38,25 @@ module _ {A : Type 0} (z : A) (p : List A) (w y : ℕ) (ys : List A) (fits : y *
   pub back_other : (k : ℕ) → (k ≡ y → ⊥) → row_of back w k ≡ row_of p w k
   back_other k ne = ap (λ (l : List A). row_of l w k) is_splice ∙ row_other_whole z p w y k ys fits wide ne
 
+-- the part of a plane that is row y, as it is lent
+abbrev pub part : {A : Type 0} → List A → ℕ → ℕ → List A
+part p w y = take (y * w + w - y * w) (drop (y * w) p)
+
 -- four planes that got row y back
 pub row_drawn :
     (tear : Tear) (right : Bool) (t : List ℕ) (w y : ℕ) (texture depths : List ℕ) (v : View) (s f : List ℕ) (e : List ℤ) (m : List ℕ) →
-    PlanesIn w y texture depths v → length s ≡ w → length f ≡ w → length e ≡ w → length m ≡ mark_bytes w →
+    PlanesIn w y texture depths v → length s ≡ length (part v.samples w y) → length f ≡ length (part v.fronts w y) → length e ≡ length (part v.limits w y) → length m ≡ length (part v.marks (mark_bytes w) y) →
     view s f e m ≡ drawn_row tear right t w texture depths y →
     RowDrawn tear right t w y texture depths v
     (view (take (y * w) v.samples ++ (s ++ drop (y * w + w - y * w) (drop (y * w) v.samples)))
     (take (y * w) v.fronts ++ (f ++ drop (y * w + w - y * w) (drop (y * w) v.fronts)))
     (take (y * w) v.limits ++ (e ++ drop (y * w + w - y * w) (drop (y * w) v.limits)))
     (take (y * mark_bytes w) v.marks ++ (m ++ drop (y * mark_bytes w + mark_bytes w - y * mark_bytes w) (drop (y * mark_bytes w) v.marks))))
-row_drawn tear right t w y texture depths v s f e m p ls lf le lm same =
+row_drawn tear right t w y texture depths v s f e m p as-s as-f as-e as-m same =
+    let ls = as-s ∙ part_length v.samples (y * w) w p.samples_in in
+    let lf = as-f ∙ part_length v.fronts (y * w) w p.fronts_in in
+    let le = as-e ∙ part_length v.limits (y * w) w p.limits_in in
+    let lm = as-m ∙ part_length v.marks (y * mark_bytes w) (mark_bytes w) p.marks_in in
     record {
       drawn =
           rw (back_row 0 v.samples w y s p.samples_in ls, back_row 0 v.fronts w y f p.fronts_in lf, back_row (pos 0) v.limits w y e p.limits_in le, back_row 0 v.marks (mark_bytes w) y m p.marks_in lm)
@@ -99,16 +64,6 @@ row_drawn tear right t w y texture depths v s f e m p ls lf le lm same =
       others = λ k ne.
           rw (back_other 0 v.samples w y s p.samples_in ls k ne, back_other 0 v.fronts w y f p.fronts_in lf k ne, back_other (pos 0) v.limits w y e p.limits_in le k ne, back_other 0 v.marks (mark_bytes w) y m p.marks_in lm k ne);
     }
-
--- the part of a plane that is row y, as it is lent
-abbrev pub part : {A : Type 0} → List A → ℕ → ℕ → List A
-part p w y = take (y * w + w - y * w) (drop (y * w) p)
-
--- the parts of row y can be drawn from
-pub parts_ready : (tear : Tear) (t : List ℕ) (w y : ℕ) (texture depths : List ℕ) (v : View) → Table t → 0 < w → w ≤ 4096 → PlanesIn w y texture depths v → Ready (line tear t (part texture w y) (part depths w y))
-parts_ready tear t w y texture depths v h some most p =
-    let l = part_length depths (y * w) w p.depths_in in
-    record { table = h; texture = part_length texture (y * w) w p.texture_in ∙ sym l; some = omega (arith, l); most = omega (arith, l) }
 
 -- what was drawn from the parts is row y
 pub parts_drawn :
@@ -120,19 +75,6 @@ parts_drawn tear right t w y texture depths s f g e m d l k =
     let ms : m ≡ pack_row (mark_bytes w) (view_row right (line tear t (part texture w y) (part depths w y))).marks =
     k ∙ ap (λ (n : ℕ). pack_row (mark_bytes n) g) l ∙ ap (pack_row (mark_bytes w)) d.shows.marks_are in
     rw (d.shows.samples_are, d.shows.fronts_are, d.limits_are, ms, part_row texture w y, part_row depths w y)
-
--- ---- the rows drawn so far
-
-pub view_none : (tear : Tear) (right : Bool) (t : List ℕ) (w : ℕ) (texture depths : List ℕ) (v : View) → ViewDrawn tear right t w 0 texture depths v
-view_none tear right t w texture depths v = record { rows_are = λ k h. absurd (not-suc-le-zero h) }
-
-pub view_next : {tear : Tear} {right : Bool} {t : List ℕ} {w y : ℕ} {texture depths : List ℕ} {v v' : View} → ViewDrawn tear right t w y texture depths v → RowDrawn tear right t w y texture depths v v' → ViewDrawn tear right t w (y + 1) texture depths v'
-view_next {tear} {right} {t} {w} {y} {texture} {depths} {v} {v'} a r =
-    record {
-      rows_are = λ k h.
-          ⊎_elim (λ l. r.others k (λ q. omega arith) ∙ a.rows_are k l)
-          (λ l. let e : k ≡ y = omega arith in subst (λ (i : ℕ). view_rows w v' i ≡ drawn_row tear right t w texture depths i) (sym e) r.drawn) (lt_or_le k y);
-    }
 
 -- ---- the fresh drawing
 

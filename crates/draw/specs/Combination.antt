@@ -1,24 +1,14 @@
 -- The combined picture of two views' planes, row by row, with its total.
-use Rattle.std.specs.Prelude.{ℕ, ◌+◌, ◌*◌, ◌≤◌, ◌<◌, ◌≡◌, false, List, length}
+use Rattle.std.specs.Prelude.{ℕ, ◌*◌, ◌≤◌, ◌<◌, ◌≡◌, false, List, length}
 use Rattle.model.specs.declared.Pixel.{Pixel}
 use Rattle.model.specs.Lists.{row_of, sum_to}
 use Rattle.model.specs.Row.{sample_in}
 use Rattle.model.specs.Marks.{mark_bytes}
 use Rattle.model.specs.Combined.{worst, square_error}
-use Rattle.marks.specs.Puts.{held_pixel}
 use Rattle.blend.specs.Blend.{combined_part}
+pub use Rattle.blend.specs.Blend.{SideIn, held_rows}
 
--- what a view's planes hold at entry i of row y
-abbrev pub held_rows : ℕ → List ℕ → List ℕ → List ℕ → ℕ → ℕ → Pixel
-held_rows w s f m y = held_pixel (row_of s w y) (row_of f w y) (row_of m (mark_bytes w) y)
-
--- row y lies within a view's samples, front depths and marks, w wide
-pub record SideIn (w y : ℕ) (s f m : List ℕ) : Type 0 where
-  pub samples : y * w + w ≤ length s
-  pub fronts : y * w + w ≤ length f
-  pub marks : y * mark_bytes w + mark_bytes w ≤ length m
-
--- they are w wide and h high
+-- a view's samples, front depths and marks are w wide and h high
 pub record SideOf (w h : ℕ) (s f m : List ℕ) : Type 0 where
   pub samples : length s ≡ w * h
   pub fronts : length f ≡ w * h
@@ -31,11 +21,6 @@ combined_row share tolerance w left right y = combined_part false share toleranc
 -- the sum of its squared errors, both samples as they are read
 unfoldable pub row_error : ℕ → List ℕ → List ℕ → ℕ → ℕ
 row_error w combined reference y = sum_to (λ i. square_error (sample_in combined i) (sample_in (row_of reference w y) i)) w
-
--- row y of the picture is combined, and every other row is as it was
-pub record RowCombined (share tolerance w y : ℕ) (left right : ℕ → ℕ → Pixel) (c c' : List ℕ) : Type 0 where
-  pub row_is : row_of c' w y ≡ combined_row share tolerance w left right y
-  pub others : (k : ℕ) → (k ≡ y → ⊥) → row_of c' w k ≡ row_of c w k
 
 -- the first n rows of the picture are combined, and r is the sum of their squared errors
 pub record PictureCombined (share tolerance w n : ℕ) (left right : ℕ → ℕ → Pixel) (reference c : List ℕ) (r : ℕ) : Type 0 where

@@ -1,4 +1,4 @@
-// Whole planes drawn row by row: the planes of one view, and the combined picture with its total.
+// Whole planes drawn row by row: the planes of one view, and the combined picture with its total. Planes come one slice each, as C lends them.
 #![tactic(auto)]
 
 ghost use Rattle.std.specs.Prelude.{◌≡◌, ◌+◌, ◌*◌, ◌≤◌, ◌<◌, length};
@@ -7,7 +7,7 @@ ghost use Rattle.model.specs.Combined.{worst};
 ghost use Rattle.model.specs.Planes.{view};
 ghost use Rattle.sums.specs.Squares.{Squares};
 ghost use Rattle.draw.specs.Drawn.{Table, PlanesIn, PlanesOf, RowDrawn, ViewDrawn};
-ghost use Rattle.draw.specs.Combination.{held_rows, SideIn, SideOf, row_error, RowCombined, PictureCombined};
+ghost use Rattle.draw.specs.Combination.{held_rows, SideOf, row_error, PictureCombined};
 
 use model::Tear;
 
@@ -46,7 +46,7 @@ pub fn draw_plane_row(
         flags,
         &mut limits[from..to],
     );
-    let bytes = (w + 7) / 8;
+    let bytes = w.div_ceil(8);
     let first = y * bytes;
     let last = first + bytes;
     marks::pack(flags, &mut marks[first..last]);
@@ -72,8 +72,7 @@ pub fn draw_view(
         (view samples.new fronts.new limits.new marks.new) }
 {
     let mut flags = [0u8; 4096];
-    let mut y = 0;
-    while y < h {
+    for y in 0..h {
         draw_plane_row(
             tear,
             right,
@@ -88,47 +87,7 @@ pub fn draw_view(
             marks,
             &mut flags[..w],
         );
-        y += 1;
     }
-}
-
-// Combines row y of the left view's planes (0) and the right view's (1) into the picture.
-fn blend_row(
-    share: u8,
-    tolerance: u8,
-    w: usize,
-    y: usize,
-    samples0: &[u16],
-    fronts0: &[u8],
-    marks0: &[u8],
-    samples1: &[u16],
-    fronts1: &[u8],
-    marks1: &[u8],
-    combined: &mut [u16],
-)
-    requires share_bound { (share ≤ 64) × (w ≤ 4096) }
-    requires side_in { (SideIn w y samples0.now fronts0.now marks0.now) × (SideIn w y samples1.now fronts1.now marks1.now) }
-    requires w_in_bounds { y * w + w ≤ length combined.old }
-    ensures { RowCombined share tolerance w y (held_rows w samples0.now fronts0.now marks0.now) (held_rows w samples1.now fronts1.now marks1.now) combined.old combined.new }
-{
-    let from = y * w;
-    let to = from + w;
-    let bytes = (w + 7) / 8;
-    let first = y * bytes;
-    let last = first + bytes;
-    blend::blend_part(
-        false,
-        share,
-        tolerance,
-        &samples0[from..to],
-        &fronts0[from..to],
-        &marks0[first..last],
-        &samples1[from..to],
-        &fronts1[from..to],
-        &marks1[first..last],
-        0,
-        &mut combined[from..to],
-    );
 }
 
 // The sum of the squared errors of row y of the picture.
@@ -164,20 +123,12 @@ pub fn combine_picture(
     ensures { PictureCombined share tolerance w h (held_rows w samples0.now fronts0.now marks0.now) (held_rows w samples1.now fronts1.now marks1.now) reference.now combined.new result }
 {
     let mut total = 0u64;
-    let mut y = 0;
-    while y < h {
-        blend_row(
-            share, tolerance, w, y, samples0, fronts0, marks0, samples1, fronts1, marks1, combined,
+    for y in 0..h {
+        blend::blend_row(
+            false, share, tolerance, w, y, 0, w, samples0, fronts0, marks0, samples1, fronts1,
+            marks1, combined,
         );
-        total += wide(error_row(squares, w, y, combined, reference));
-        y += 1;
+        total += u64::from(error_row(squares, w, y, combined, reference));
     }
     total
-}
-
-// A row's sum, in 64 bits.
-fn wide(x: u32) -> u64
-    ensures { result ≡ x }
-{
-    x as u64
 }

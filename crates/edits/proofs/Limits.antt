@@ -1,13 +1,13 @@
 -- The limits of a row after an edit.
 --     limit_settled      left of the edit, once a limit is what it was, so are all before it
 --     limits_again       so limits that were true, written down to where they settled, are true
---     written_none, written_back, written_settled, written_all     the limits as they are written, from the right
+--     written_settled    where the limits that are written, from the right, are the held ones
 use Prim.Native.Nat.{ℕ, zero, suc, ◌+◌, ◌-◌, ◌<◌, ◌≤◌, min}
 use mathlib.Core.Path.{◌≡◌, sym, ap, ◌∙◌}
 use mathlib.Core.Logic.{⊎_elim}
 use mathlib.Core.List.{List}
 use native.Mathlib.Omega.{arith}
-use lib.ListN.{length, get_or, set}
+use lib.ListN.{length, get_or}
 use lib.IntN.{ℤ, pos}
 use Rattle.model.specs.declared.Tear.{Tear}
 use Rattle.model.specs.Lists.{list_of}
@@ -16,12 +16,11 @@ use Rattle.model.proofs.Choice.{lt_or_le}
 use Rattle.model.proofs.Lists.{length-list_of, get_or-list_of, list_of_lem}
 use Rattle.model.proofs.Owners.{limit_step, limit_most}
 use Rattle.model.proofs.Spans.{Moved, EditedRow, edited_moved, span_limit}
-use Rattle.planes.specs.Parts.{Filled}
-use Rattle.planes.proofs.Fills.{filled_none, filled_back}
 use Rattle.signed.specs.Limits.{raised_of}
 use Rattle.signed.proofs.Limits.{raised_signed}
 use Rattle.limits.specs.Limits.{limit_below}
-use Rattle.limits.proofs.Below.{below_end, below_step, below_limit}
+use Rattle.limits.proofs.Below.{below_step, below_limit}
+use Rattle.limits.proofs.Falling.{LimitsFrom}
 use Rattle.edits.specs.Changes.{Relimited}
 
 -- over any places before and after an edit
@@ -60,45 +59,16 @@ limits_again tear t s d d' a b n high {e} {e'} edit en most eh old le r =
 
 -- ---- the limits, written from the right
 
--- the limits of columns c to n − 1 are written, and top is that of column c
-pub record Written (t d : List ℕ) (n high : ℕ) (e e' : List ℤ) (c top : ℕ) : Type 0 where
-  pub column : c ≤ n
-  pub limit : top ≡ limit_below (place t d) high n c
-  pub filled : Filled (pos 0) (λ i. signed (limit_below (place t d) high n i)) c n e e'
-
-pub written_none : (t d : List ℕ) (n high : ℕ) (e : List ℤ) → Written t d n high e e n high
-written_none t d n high e =
-    record { column = omega arith; limit = sym (below_end (place t d) high n); filled = filled_none (pos 0) _ n e }
-
-module _ {t d : List ℕ} {n high : ℕ} {e e' : List ℤ} {c top : ℕ} (done : Written t d n high e e' c top) where
-  -- the limit of the column before
-  limit_before : (here next : ℕ) → 0 < c → here ≡ place t d (c - 1) → next ≡ min here top → next ≡ limit_below (place t d) high n (c - 1)
-  limit_before here next some eh en =
-      let z : c - 1 + 1 ≡ c = omega arith in
-      en ∙ rw (eh, done.limit) (sym (rw z at (below_step (place t d) high n (c - 1) (omega (arith, done.column)))))
-
-  pub written_back : (here next : ℕ) (v : ℤ) (e'' : List ℤ) → 0 < c → c ≤ length e' → here ≡ place t d (c - 1) → next ≡ min here top → v ≡ signed next → e'' ≡ set e' (c - 1) v → Written t d n high e e'' (c - 1) next
-  written_back here next v e'' some fits eh en ev ee =
-      let z : c - 1 + 1 ≡ c = omega arith in
-      let l = limit_before here next some eh en in
-      record {
-        column = omega (arith, done.column);
-        limit = l;
-        filled = rw ee
-            (filled_back {y = e'} v (rw z done.filled) (omega (arith, done.column)) (omega arith) (ev ∙ ap signed l));
-      }
-
+module _ {t d : List ℕ} {n high : ℕ} {e e' : List ℤ} {c top : ℕ} (done : LimitsFrom (place t d) n high top c e e') where
   -- the held limit of the column before, left of column a, is the one to be written
-  pub written_settled : (a here next held : ℕ) → 0 < c → c - 1 < a → here ≡ place t d (c - 1) → next ≡ min here top → held ≡ raised_of (get_or e' (c - 1) (pos 0)) → held ≡ next → Relimited t d a n high e e'
-  written_settled a here next held some left eh en er eq =
+  pub written_settled : (a here next held : ℕ) → 0 < c → c ≤ n → c - 1 < a → here ≡ place t d (c - 1) → next ≡ min here top → held ≡ raised_of (get_or e' (c - 1) (pos 0)) → held ≡ next → Relimited t d a n high e e'
+  written_settled a here next held some more left eh en er eq =
+      let z : c - 1 + 1 ≡ c = omega arith in
+      let step : next ≡ limit_below (place t d) high n (c - 1) =
+      en ∙ rw (eh, done.limits) (sym (rw z at (below_step (place t d) high n (c - 1) (omega arith)))) in
       record {
         stop = c;
         order = omega arith;
         written = done.filled;
-        settled = λ k. ap raised_of (sym (done.filled.under (c - 1) (omega arith))) ∙ sym er ∙ eq ∙ limit_before here next some eh en;
+        settled = λ k. ap raised_of (sym (done.filled.under (c - 1) (omega arith))) ∙ sym er ∙ eq ∙ step;
       }
-
-  pub written_all : (a : ℕ) → c ≤ 0 → Relimited t d a n high e e'
-  written_all a h =
-      let z : c ≡ 0 = omega arith in
-      record { stop = c; order = omega arith; written = done.filled; settled = λ k. absurd (omega arith) }

@@ -18,18 +18,6 @@ pub struct Edit {
     pub edge: Edge,
 }
 
-// Copies `values` into a part of that length.
-fn write(part: &mut [u8], values: &[u8])
-    requires { length part.old ≡ length values.now }
-    ensures { part.new ≡ values.now }
-{
-    let mut i = 0;
-    while i < values.len() {
-        part[i] = values[i];
-        i += 1;
-    }
-}
-
 // Writes the candidate into a row of depths from `column` on, and answers the low end of the span. `first` is its first column, as the
 // view reads the row.
 fn edit_row(
@@ -47,9 +35,9 @@ fn edit_row(
     let n = candidate.len();
     let old = places::row_low(right, table, depths, first, n);
     let end = column + n;
-    write(&mut depths[column..end], candidate);
+    depths[column..end].copy_from_slice(candidate);
     let least = places::least_place(right, table, depths, first, n, old);
-    places::quarter_before(least)
+    least.saturating_sub(1)
 }
 
 // What is taken for the limit of column `columns`, as a trial takes it: the held one, or the column's own place where that is less, or the
@@ -65,6 +53,7 @@ fn high_of(right: bool, table: &[u16; 256], depths: &[u8], limits: &[i16], colum
 
 // Writes the limits of the columns below `columns`, from the right. Left of column `first` it stops where the held limit is right already:
 // those before it are too.
+#[tactic(auto, using(limits::proofs::Below::below_most, model::proofs::Views::length_seen))]
 fn write_limits(
     right: bool,
     table: &[u16; 256],
@@ -78,22 +67,18 @@ fn write_limits(
     requires columns_bound { (columns ≤ 4096) × (columns ≤ length limits.old) }
     ensures { Relimited table.now (seen right depths.now) first columns high (seen right limits.old) (seen right limits.new) }
 {
-    let mut c = columns;
     let mut top = high;
-    while 0 < c {
-        c -= 1;
-        let here = places::place_of(right, table, depths, c);
-        top = places::least(here, top);
-        if c < first {
-            if limits::held_limit(right, limits, c) == top {
-                return;
-            }
+    for c in (0..columns).rev() {
+        top = places::place_of(right, table, depths, c).min(top);
+        if c < first && limits::held_limit(right, limits, c) == top {
+            return;
         }
         places::put_limit(right, limits, c, signed::limit_of(top));
     }
 }
 
 // Brings a row's limits up to date, and answers the edge right of the columns below `columns`, with the high end of the span.
+#[tactic(auto, using(limits::proofs::Limits::limit_least, pixel::proofs::Pairs::next_most, model::proofs::Views::length_seen))]
 fn update_limits(
     right: bool,
     table: &[u16; 256],
@@ -113,6 +98,7 @@ fn update_limits(
 }
 
 // Writes the candidate into row y of the depths from `column` on, and brings the row's limits up to date.
+#[tactic(auto, using(crate::proofs::Lent::rewritten_wide, crate::proofs::Lent::lent_again))]
 pub fn change_row(
     right: bool,
     table: &[u16; 256],

@@ -2,7 +2,7 @@
 --     row_filled       row i of the filled block
 --     row_there        the row can be made
 --     lent_filled, lent_full     a candidate whose rows are lent
---     line_row, mask_row, rows_more, made-..     rows as they are made
+--     line_row, mask_row, rows_more, row_holds, made_..     rows as they are made
 use Prim.Native.Nat.{ℕ, ◌+◌, ◌-◌, ◌*◌, ◌<◌, ◌≤◌}
 use mathlib.Core.Path.{◌≡◌, refl, sym, ap, ◌∙◌}
 use mathlib.Core.Bool.{Bool, true, cond, true≢false}
@@ -11,7 +11,7 @@ use mathlib.Core.Logic.{⊎_elim}
 use native.Mathlib.Omega.{arith}
 use native.Mathlib.Nat.{mul_comm}
 use lib.Dec.{ltb, eqb}
-use lib.ListN.{length, get_or, take, drop}
+use lib.ListN.{length, take, drop}
 use borrow.Author.Tests.{eqb-true}
 use Rattle.model.specs.declared.Block.{Block}
 use Rattle.model.specs.declared.Point.{Point}
@@ -27,7 +27,7 @@ use Rattle.model.proofs.Choice.{lt_or_le, and_left, and_right}
 use Rattle.model.proofs.Lists.{length-list_of, get_or-list_of, list_of_lem, list_same, rows_apart, length-row, length_plane_row, get_or_row, entry_fits}
 use Rattle.model.proofs.Refusals.{unless_true}
 use Rattle.model.proofs.Candidates.{border_inside}
-use Rattle.planes.proofs.Splices.{length-splice, row_whole, row_other_whole, put_back}
+use Rattle.planes.proofs.Splices.{row_whole, row_other_whole, put_back}
 use Rattle.fill.specs.Rows.{above, below, Near, filled_row, RowThere, is_lent, room_of, row_in, Started, RowsMade}
 use Rattle.fill.proofs.Lines.{line_region}
 
@@ -102,33 +102,31 @@ pub mask_row : (w i : ℕ) (x : List ℕ) (value0 value1 : ℕ) (split : Split) 
 unfolding in_region1
 mask_row w i x value0 value1 split e = regions_row w i x value0 value1 split (λ k. eqb (mark_at x (i * w + k)) 1) (λ k m. rw e)
 
-module _ (w : ℕ) (c : Candidate) (x : List ℕ) (i n : ℕ) where
-  pub made_full : (room : List ℕ) → c ≡ Full → RowsMade w c x i n room room
-  unfolding row_in filled_row
-  made_full room e = rw e (record { row = λ k h. refl; started = tt; size = refl })
+-- rows of one value, and rows that are lent, are there already
+pub made_already : (w : ℕ) (c : Candidate) (x : List ℕ) (i n : ℕ) (room : List ℕ) → ((value0 value1 : ℕ) (split : Split) → c ≡ Regions value0 value1 split → ⊥) → length room ≡ room_of c (n * w) → Started c room → RowsMade w c x i n room room
+unfolding row_in filled_row room_of
+made_already w Full x i n room other l s = record { row = λ k h. refl; started = tt; size = refl }
+made_already w (Flat depth) x i n room other l s =
+    record {
+      row = λ k b. list_of_lem 0 (λ j. depth) w (row_of room w k) (length_plane_row room w n k l b)
+          (λ j a. get_or_row 0 room w k j a ∙ s (k * w + j) (omega (arith, entry_fits w n k j b a)));
+      started = s;
+      size = refl;
+    }
+made_already w (Regions value0 value1 split) x i n room other l s = absurd (other value0 value1 split refl)
 
-  pub made_flat : (room : List ℕ) {depth : ℕ} → c ≡ Flat depth → length room ≡ room_of c (n * w) → Started c room → RowsMade w c x i n room room
-  unfolding row_in filled_row room_of
-  made_flat room {depth} e l s =
-      let h : (k : ℕ) → k < length room → get_or room k 0 ≡ depth = rw e at s in
-      let m : length room ≡ n * w = rw e at l in
-      rw e
-      (record {
-        row = λ k b. list_of_lem 0 (λ j. depth) w (row_of room w k) (length_plane_row room w n k m b)
-            (λ j a. get_or_row 0 room w k j a ∙ h (k * w + j) (omega (arith, entry_fits w n k j b a)));
-        started = h;
-        size = refl;
-      })
+pub made_regions : (w : ℕ) (c : Candidate) (x : List ℕ) (i n : ℕ) (room room' : List ℕ) {value0 value1 : ℕ} {split : Split} → c ≡ Regions value0 value1 split → length room' ≡ length room → ((k : ℕ) → k < n → row_of room' w k ≡ filled_row w (Regions value0 value1 split) x (i + k)) → RowsMade w c x i n room room'
+unfolding row_in
+made_regions w c x i n room room' e l h = rw e (record { row = h; started = tt; size = l })
 
-  pub made_regions : (room room' : List ℕ) {value0 value1 : ℕ} {split : Split} → c ≡ Regions value0 value1 split → length room' ≡ length room → ((k : ℕ) → k < n → row_of room' w k ≡ filled_row w (Regions value0 value1 split) x (i + k)) → RowsMade w c x i n room room'
-  unfolding row_in
-  made_regions room room' e l h = rw e (record { row = h; started = tt; size = l })
+-- the room of n rows of regions holds row k
+pub row_holds : (w : ℕ) (c : Candidate) (n k : ℕ) (room : List ℕ) {value0 value1 : ℕ} {split : Split} → c ≡ Regions value0 value1 split → length room ≡ room_of c (n * w) → k < n → k * w + w ≤ length room
+unfolding room_of
+row_holds w c n k room e l h = let m : length room ≡ n * w = rw e at l in omega (arith, rows_apart w k n h)
 
 -- one more row, put back into the room
-pub rows_more : (w k : ℕ) (f : ℕ → List ℕ) (room ys : List ℕ) → k * w + w ≤ length room → length ys ≡ w → ys ≡ f k → ((j : ℕ) → j < k → row_of room w j ≡ f j) → (length (take (k * w) room ++ (ys ++ drop (k * w + w - k * w) (drop (k * w) room))) ≡ length room) × ((j : ℕ) → j < k + 1 → row_of (take (k * w) room ++ (ys ++ drop (k * w + w - k * w) (drop (k * w) room))) w j ≡ f j)
-rows_more w k f room ys fits n e h =
-    rw (put_back room ys (k * w) w n) (
-      length-splice room (k * w) ys (omega arith),
-      λ j b. ⊎_elim (λ u. row_other_whole 0 room w k j ys fits n (λ q. absurd (omega arith)) ∙ h j u)
-          (λ u. let q : j ≡ k = omega arith in rw q (row_whole 0 room w k ys fits n ∙ e)) (lt_or_le j k),
-    )
+pub rows_more : (w k : ℕ) (f : ℕ → List ℕ) (room ys : List ℕ) → k * w + w ≤ length room → length ys ≡ w → ys ≡ f k → ((j : ℕ) → j < k → row_of room w j ≡ f j) → (j : ℕ) → j < k + 1 → row_of (take (k * w) room ++ (ys ++ drop (k * w + w - k * w) (drop (k * w) room))) w j ≡ f j
+rows_more w k f room ys fits n e h j b =
+    rw (put_back room ys (k * w) w n)
+    (⊎_elim (λ u. row_other_whole 0 room w k j ys fits n (λ q. absurd (omega arith)) ∙ h j u)
+    (λ u. let q : j ≡ k = omega arith in rw q (row_whole 0 room w k ys fits n ∙ e)) (lt_or_le j k))

@@ -13,73 +13,34 @@ use model::{Candidate, Point, Split};
 pub fn lent(candidate: Candidate) -> bool
     ensures { result ≡ is_lent candidate }
 {
-    match candidate {
-        Candidate::Full => true,
-        Candidate::Flat(_) => false,
-        Candidate::Regions {
-            value0: _,
-            value1: _,
-            split: _,
-        } => false,
-    }
+    matches!(candidate, Candidate::Full)
 }
 
 // The entries of the room that one row takes: none where the rows are lent.
+#[tactic(auto, unfolding(crate::specs::Rows::room_of))]
 pub fn room_of(candidate: Candidate, width: usize) -> usize
     ensures { result ≡ room_of candidate width }
 {
     if lent(candidate) { 0 } else { width }
 }
 
-// A room for several rows of most blocks. It is cleared for every call, so it is no larger than that takes.
-pub fn short_room() -> [u8; 256]
-    ensures { 256 ≡ length result }
-{
-    [0u8; 256]
-}
-
-// A room for at least one row of any block.
-pub fn long_room() -> [u8; 4096]
-    ensures { 4096 ≡ length result }
-{
-    [0u8; 4096]
-}
-
-// The value of a position in region 1, or in region 0.
-fn value_of(one: bool, value0: u8, value1: u8) -> u8
-    ensures { result ≡ cond one value1 value0 }
-{
-    if one { value1 } else { value0 }
-}
-
-// One value in every entry.
-fn fill_flat(depth: u8, room: &mut [u8])
-    ensures { room.new ≡ list_of (λ k. depth) (length room.old) }
-{
-    let mut k = 0;
-    while k < room.len() {
-        room[k] = depth;
-        k += 1;
-    }
-}
-
 // A value for each column: value1 where `under` < `over`, both of which grow by a fixed step from column to column.
+#[tactic(auto, using(crate::proofs::Lines::product_most))]
 fn walk(over: u32, under: u32, up: u32, down: u32, value0: u8, value1: u8, room: &mut [u8])
     requires { (over ≤ 33554432) × ((under ≤ 33554432) × ((up ≤ 4096) × ((down ≤ 4096) × (length room.old ≤ 4096)))) }
     ensures { room.new ≡ list_of (λ k. cond (ltb (under + down * k) (over + up * k)) value1 value0) (length room.old) }
 {
     let mut a = over;
     let mut b = under;
-    let mut k = 0;
-    while k < room.len() {
-        room[k] = value_of(b < a, value0, value1);
+    for entry in room.iter_mut() {
+        *entry = if b < a { value1 } else { value0 };
         a += up;
         b += down;
-        k += 1;
     }
 }
 
 // Row i of the regions of a line, whose cross product is above 0 where `below` < `above`.
+#[tactic(auto, using(crate::proofs::Lines::product_most), unfolding(crate::specs::Rows::above, crate::specs::Rows::below))]
 fn fill_line(start: Point, end: Point, value0: u8, value1: u8, i: u32, room: &mut [u8])
     requires { (Near start) × ((Near end) × ((i ≤ 4096) × (length room.old ≤ 4096))) }
     ensures { room.new ≡ list_of (λ k. cond (ltb (below start end i k) (above start end i k)) value1 value0) (length room.old) }
@@ -94,11 +55,9 @@ fn fill_mask(bits: &[u8], from: usize, value0: u8, value1: u8, room: &mut [u8])
     requires { (from + length room.old ≤ 8 * length bits.now) × (from + length room.old ≤ 16777216) }
     ensures { room.new ≡ list_of (λ k. cond (eqb (mark_at bits.now (from + k)) 1) value1 value0) (length room.old) }
 {
-    let mut k = 0;
-    while k < room.len() {
+    for (k, entry) in room.iter_mut().enumerate() {
         let bit = marks::mark_at(bits, from + k);
-        room[k] = value_of(bit == 1, value0, value1);
-        k += 1;
+        *entry = if bit == 1 { value1 } else { value0 };
     }
 }
 
@@ -106,18 +65,13 @@ fn fill_mask(bits: &[u8], from: usize, value0: u8, value1: u8, room: &mut [u8])
 pub fn start(candidate: Candidate, room: &mut [u8])
     ensures { (Started candidate room.new) × (length room.new ≡ length room.old) }
 {
-    match candidate {
-        Candidate::Full => {}
-        Candidate::Flat(depth) => fill_flat(depth, room),
-        Candidate::Regions {
-            value0: _,
-            value1: _,
-            split: _,
-        } => {}
+    if let Candidate::Flat(depth) = candidate {
+        room.fill(depth);
     }
 }
 
 // One row of two regions.
+#[tactic(auto, using(crate::proofs::Rows::mask_row, crate::proofs::Lines::product_most))]
 fn fill_regions(value0: u8, value1: u8, split: Split, bytes: &[u8], i: usize, row: &mut [u8])
     requires { (RowThere (length row.old) (Regions value0 value1 split) bytes.now i) × ((length row.old ≤ 4096) × (i ≤ 4095)) }
     ensures { row.new ≡ filled_row (length row.old) (Regions value0 value1 split) bytes.now i }
@@ -129,6 +83,7 @@ fn fill_regions(value0: u8, value1: u8, split: Split, bytes: &[u8], i: usize, ro
 }
 
 // Makes n rows from row i on, one after the other in the room, which `start` has prepared.
+#[tactic(auto, using(crate::proofs::Rows::row_holds))]
 pub fn fill_rows(
     candidate: Candidate,
     bytes: &[u8],
@@ -141,26 +96,22 @@ pub fn fill_rows(
     requires room_len { (length room.old ≡ room_of candidate (n * width)) × (Started candidate room.old) }
     ensures { RowsMade width candidate bytes.now i n room.old room.new }
 {
-    match candidate {
-        Candidate::Full => {}
-        Candidate::Flat(_) => {}
-        Candidate::Regions {
-            value0,
-            value1,
-            split,
-        } => {
-            let mut k = 0;
-            while k < n {
-                let from = k * width;
-                let to = from + width;
-                fill_regions(value0, value1, split, bytes, i + k, &mut room[from..to]);
-                k += 1;
-            }
+    if let Candidate::Regions {
+        value0,
+        value1,
+        split,
+    } = candidate
+    {
+        for k in 0..n {
+            let from = k * width;
+            let to = from + width;
+            fill_regions(value0, value1, split, bytes, i + k, &mut room[from..to]);
         }
     }
 }
 
 // Row i, to be lent on: a part of the bytes, or the room in which it was made.
+#[tactic(auto, using(crate::proofs::Rows::there_lent), unfolding(crate::specs::Rows::row_in, model::specs::Lists::row_of))]
 pub fn row_of<'a>(
     candidate: Candidate,
     bytes: &'a [u8],

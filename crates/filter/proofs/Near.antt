@@ -1,5 +1,5 @@
 -- Eight samples decide.
---     near_part, near_list   where eight samples come from: a part of the row, or one by one
+--     near_part, near_each   where eight samples come from: a part of the row, or one by one
 --     near_mixed             the filters give the same over the eight samples as over the row
 use Prim.Native.Nat.{ℕ, suc, ◌+◌, ◌-◌, ◌<◌, ◌≤◌, min}
 use mathlib.Core.Path.{◌≡◌, refl, ap, subst, ◌∙◌}
@@ -10,10 +10,8 @@ use lib.IntN.{ℤ, pos, ◌+ℤ◌, ◌*ℤ◌}
 use lib.Signed.{shr_z}
 use lib.ListN.{length, get_or, take, drop, length-take, length-drop}
 use lib.Seq.{get_or-take, get_or-drop}
-use Rattle.model.specs.Lists.{list_of, list_from}
 use Rattle.model.specs.Row.{read, sample_in, taps1, taps2, taps3, repeated, weighted, clipped, filtered, mixed}
 use Rattle.model.proofs.Choice.{lt_or_le}
-use Rattle.model.proofs.Lists.{length-list_of, get_or-list_of}
 use Rattle.model.proofs.Readings.{read_twice}
 
 -- p has the samples of columns c − 3 to c + 4 of a row s, ends repeated
@@ -33,28 +31,10 @@ near_part s c h g =
           rw (get_or-take, get_or-drop) (ap (λ (i : ℕ). read (get_or s i 0)) e);
     })
 
--- all eight, and a list that has them one by one
-around : List ℕ → ℕ → List ℕ
-around s c = list_of (λ j. repeated s (c + j)) 8
-
-around_near : (s : List ℕ) (c : ℕ) → Near s c (around s c)
-unfolding around repeated sample_in
-around_near s c =
-    record {
-      eight = length-list_of (λ j. repeated s (c + j)) 8;
-      at = λ j h. ap read (get_or-list_of 0 (λ j. repeated s (c + j)) 8 j h) ∙ read_twice _;
-    }
-
-pub near_list :
-    {s : List ℕ} {c a0 a1 a2 a3 a4 a5 a6 a7 : ℕ} →
-    a0 ≡ repeated s c → a1 ≡ repeated s (c + 1) → a2 ≡ repeated s (c + 2) → a3 ≡ repeated s (c + 3) →
-    a4 ≡ repeated s (c + 4) → a5 ≡ repeated s (c + 5) → a6 ≡ repeated s (c + 6) → a7 ≡ repeated s (c + 7) →
-    Near s c (a0 ∷ a1 ∷ a2 ∷ a3 ∷ a4 ∷ a5 ∷ a6 ∷ a7 ∷ [])
-unfolding around list_from
-near_list {s} {c} e0 e1 e2 e3 e4 e5 e6 e7 =
-    let z : c + 0 ≡ c = omega arith in
-    let f0 : repeated s (c + 0) ≡ repeated s c = ap (repeated s) z in
-    rw (e0, ← f0, e1, e2, e3, e4, e5, e6, e7) (around_near s c)
+-- eight entries that are these samples already
+pub near_each : {s p : List ℕ} {c : ℕ} → length p ≡ 8 → ((j : ℕ) → j < 8 → get_or p j 0 ≡ repeated s (c + j)) → Near s c p
+unfolding repeated sample_in
+near_each e h = record { eight = e; at = λ j k. ap read (h j k) ∙ read_twice _ }
 
 -- k of 1, 2 and 3, one by one
 pub by_step : (P : ℕ → Type 0) → P 1 → P 2 → P 3 → (k : ℕ) → 1 ≤ k → k ≤ 3 → P k

@@ -51,10 +51,7 @@ fn column_at(i: usize, w: usize) -> usize
     requires { 0 < w }
     ensures { (result ≡ min (i - 3) (w - 1)) × (result < w) }
 {
-    if i < 3 {
-        return 0;
-    }
-    if i - 3 < w { i - 3 } else { w - 1 }
+    i.saturating_sub(3).min(w - 1)
 }
 
 // The sample of column i − 3, ends repeated.
@@ -71,16 +68,10 @@ fn outer(row: &[u16], c: usize, k: u32) -> u16
     requires c_in_bounds { (c < length row.now) × (length row.now ≤ 4096) }
     ensures { result ≡ mixed row.now c k }
 {
-    let near = [
-        repeated_at(row, c),
-        repeated_at(row, c + 1),
-        repeated_at(row, c + 2),
-        repeated_at(row, c + 3),
-        repeated_at(row, c + 4),
-        repeated_at(row, c + 5),
-        repeated_at(row, c + 6),
-        repeated_at(row, c + 7),
-    ];
+    let mut near = [0u16; 8];
+    for (j, sample) in near.iter_mut().enumerate() {
+        *sample = repeated_at(row, c + j);
+    }
     inner(&near, k)
 }
 
@@ -96,12 +87,8 @@ pub fn between(row: &[u16], c: usize, k: u32) -> u16
     if 3 < k {
         return model::read(row[c + 1]);
     }
-    if 3 <= c {
-        if c + 4 < row.len() {
-            let from = c - 3;
-            let to = c + 5;
-            return inner(&row[from..to], k);
-        }
+    if 3 <= c && c + 4 < row.len() {
+        return inner(&row[c - 3..c + 5], k);
     }
     outer(row, c, k)
 }

@@ -8,7 +8,7 @@ ghost use Rattle.fresh.specs.Filled.{Filled};
 
 use model::Tear;
 
-// Draws both views and combines them; answers the total.
+// Draws both views and combines them; answers the total. The planes come one slice each, as C lends them.
 pub fn fill(
     leftTable: &[u16; 256],
     rightTable: &[u16; 256],

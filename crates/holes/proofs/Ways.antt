@@ -1,20 +1,20 @@
 -- The ways out of HOLES: refused, or counted.
 use Prim.Native.Nat.{ℕ, ◌*◌, ◌≤◌}
-use mathlib.Core.Path.{◌≡◌, refl, sym, ap, ◌∙◌}
+use mathlib.Core.Path.{◌≡◌, refl, ap, ◌∙◌}
 use mathlib.Core.Bool.{cond, ◌&&◌}
 use mathlib.Core.List.{List}
 use lib.ListN.{length}
 use lib.Dec.{eqb}
 use borrow.Author.Tests.{eqb-true}
+use Rattle.std.specs.Prelude.{Ok, Err}
 use Rattle.model.specs.declared.Settings.{Settings}
 use Rattle.model.specs.declared.Refusal.{Refusal}
-use Rattle.model.specs.declared.Count.TheVariants.{Refused, Holes}
 use Rattle.model.specs.Marks.{mark_bytes, holes_in}
 use Rattle.model.specs.Views.{is_right}
 use Rattle.model.specs.Refusals.{number_of, size_ok, holes_number}
 use Rattle.model.specs.Promises.{HolesPost}
 use Rattle.model.proofs.Choice.{and_left, and_right}
-use Rattle.model.proofs.Refusals.{unless_true, unless_rest, size_facts}
+use Rattle.model.proofs.Refusals.{some_number, unless_true, unless_rest, size_facts}
 use Rattle.validate.specs.Numbers.{sides}
 
 -- what 1 and 2 have shown
@@ -44,8 +44,8 @@ module _ (s : Settings) (v : ℕ) (left right : List ℕ) where
   unfolding holes_number size_ok
   holes_number_lem = refl
 
-  pub refused : (x : Refusal) → number_of x ≡ holes_number (sides s.w s.h) v left right → (number_of x ≡ 0 → ⊥) → HolesPost s v left right (Refused x)
-  refused x e ne = record { number = e ∙ holes_number_lem; count = λ z. absurd (ne z) }
+  pub refused : (r : Refusal) → number_of r ≡ holes_number (sides s.w s.h) v left right → HolesPost s v left right (Err r)
+  refused r e = record { number = e ∙ holes_number_lem; count = λ z. absurd (some_number r z) }
 
-  pub counted : (n : ℕ) → holes_number (sides s.w s.h) v left right ≡ 0 → n ≡ holes_in (cond (is_right v) right left) s.w s.h → HolesPost s v left right (Holes n)
-  counted n e q = record { number = sym e ∙ holes_number_lem; count = λ _. ap Holes q }
+  pub counted : (n : ℕ) → 0 ≡ holes_number (sides s.w s.h) v left right → n ≡ holes_in (cond (is_right v) right left) s.w s.h → HolesPost s v left right (Ok n)
+  counted n e q = record { number = e ∙ holes_number_lem; count = λ _. ap Ok q }

@@ -1,20 +1,18 @@
 -- What a SET saves in the journal.
---     head_set, fifth_inside, sixth_inside     six words set one by one
---     rows_none, row_saved, rows_all           the depths that stand in a block, row by row
---     row_facts                                where a row of the block lies
---     head_first                               the head, and then the depths
---     saved_is, word_inside                    the record put into its place, and then word 0
+--     row_saved, rows_all     the depths that stand in a block, row by row
+--     row_facts               where a row of the block lies
+--     saved_is                the record put into its place, and then word 0
 use Prim.Native.Nat.{ℕ, ◌+◌, ◌-◌, ◌*◌, ◌/◌, ◌%◌, ◌<◌, ◌≤◌}
-use mathlib.Core.Path.{◌≡◌, refl, sym, ap, ◌∙◌}
+use mathlib.Core.Path.{◌≡◌, ap, ◌∙◌}
 use mathlib.Core.Bool.{true, cond, ◌&&◌}
 use mathlib.Core.Logic.{⊎_elim}
-use mathlib.Core.List.{List, [], ◌∷◌, ◌++◌, append-nil}
+use mathlib.Core.List.{List, ◌++◌}
 use native.Mathlib.Omega.{arith}
 use native.Mathlib.Nat.{mul_comm}
 use lib.Arith.{digits_div, digits_mod}
 use lib.Dec.{leb, ltb, eqb}
-use lib.ListN.{length, get_or, set, take, drop, length-set, length-drop, drop_of_length-le}
-use lib.Seq.{take-append-le, take-length, get_or-take, get_or-drop, get_or-set_same, get_or-set_other}
+use lib.ListN.{length, get_or, set, take, drop, length-set}
+use lib.Seq.{get_or-take, get_or-drop, get_or-set_same, get_or-set_other}
 use borrow.Author.Tests.{le-leb, lt-leb, lt-ltb, le-ltb, eqb-true, eqb-false}
 use Rattle.model.specs.declared.Block.{Block}
 use Rattle.model.specs.Blocks.{block_depths}
@@ -27,27 +25,9 @@ use Rattle.model.proofs.Refusals.{room_end}
 use Rattle.model.proofs.Journals.{next_some}
 use Rattle.planes.specs.Parts.{splice, Filled}
 use Rattle.planes.proofs.Splices.{length-splice, splice_under, splice_inside, splice_beyond, part_length}
-use Rattle.planes.proofs.Fills.{filled_none, filled_splice, filled_more, filled_all}
+use Rattle.planes.proofs.Fills.{filled_splice, filled_more, filled_all}
 use Rattle.journal.specs.Words.{InPlane}
 use Rattle.chain.proofs.Chains.{product_most}
-
--- six words set one by one
-pub head_set : (x : List ℕ) (a b c d e f : ℕ) → length x ≡ 6 → set (set (set (set (set (set x 0 a) 1 b) 2 c) 3 d) 4 e) 5 f ≡ a ∷ b ∷ c ∷ d ∷ e ∷ f ∷ []
-head_set (x0 ∷ x1 ∷ x2 ∷ x3 ∷ x4 ∷ x5 ∷ []) a b c d e f h = refl
-head_set [] a b c d e f h = absurd (omega arith)
-head_set (x0 ∷ []) a b c d e f h = absurd (omega arith)
-head_set (x0 ∷ x1 ∷ []) a b c d e f h = absurd (omega arith)
-head_set (x0 ∷ x1 ∷ x2 ∷ []) a b c d e f h = absurd (omega arith)
-head_set (x0 ∷ x1 ∷ x2 ∷ x3 ∷ []) a b c d e f h = absurd (omega arith)
-head_set (x0 ∷ x1 ∷ x2 ∷ x3 ∷ x4 ∷ []) a b c d e f h = absurd (omega arith)
-head_set (x0 ∷ x1 ∷ x2 ∷ x3 ∷ x4 ∷ x5 ∷ x6 ∷ xs) a b c d e f h = absurd (omega arith)
-
--- the last two of them
-pub fifth_inside : (x : List ℕ) (a b c d : ℕ) → length x ≡ 6 → 4 < length (set (set (set (set x 0 a) 1 b) 2 c) 3 d)
-fifth_inside x a b c d h = rw (length-set (set (set (set x 0 a) 1 b) 2 c) 3 d, length-set (set (set x 0 a) 1 b) 2 c, length-set (set x 0 a) 1 b, length-set x 0 a) (omega arith)
-
-pub sixth_inside : (x : List ℕ) (a b c d e : ℕ) → length x ≡ 6 → 5 < length (set (set (set (set (set x 0 a) 1 b) 2 c) 3 d) 4 e)
-sixth_inside x a b c d e h = rw (length-set (set (set (set (set x 0 a) 1 b) 2 c) 3 d) 4 e, length-set (set (set (set x 0 a) 1 b) 2 c) 3 d, length-set (set (set x 0 a) 1 b) 2 c, length-set (set x 0 a) 1 b, length-set x 0 a) (omega arith)
 
 -- ---- the depths that stand in a block
 
@@ -55,9 +35,6 @@ module _ (w : ℕ) (b : Block) (plane : List ℕ) where
   -- depth k of the block, in row order
   abbrev pub standing : ℕ → ℕ
   standing k = get_or plane ((b.row + k / b.width) * w + (b.column + k % b.width)) 0
-
-  pub rows_none : (x : List ℕ) → Filled 0 standing 0 (0 * b.width) x x
-  rows_none x = let e : 0 * b.width ≡ 0 = omega arith in rw e (filled_none 0 standing 0 x)
 
   -- row y of the block, put into its place after the rows before it
   pub row_saved : (y : ℕ) (x words : List ℕ) → Filled 0 standing 0 (y * b.width) x words → y * b.width + b.width ≤ length words → (b.row + y) * w + b.column + b.width ≤ length plane → (ys : List ℕ) → ys ≡ take ((b.row + y) * w + b.column + b.width - ((b.row + y) * w + b.column)) (drop ((b.row + y) * w + b.column) plane) → Filled 0 standing 0 ((y + 1) * b.width) x (splice words (y * b.width) ys)
@@ -100,15 +77,6 @@ module _ (w : ℕ) (b : Block) (plane : List ℕ) where
 
 -- ---- the record in its place
 
--- the head, and then the depths in the rest of the words
-pub head_first : (head rest rows : List ℕ) → length head ≡ 6 → take 6 (head ++ rest) ++ (rows ++ drop (length (head ++ rest) - 6) (drop 6 (head ++ rest))) ≡ head ++ rows
-head_first head rest rows l =
-    let front : take 6 (head ++ rest) ≡ head = take-append-le 6 head rest (omega arith) ∙ ap (λ (n : ℕ). take n head) (sym l) ∙ take-length head in
-    let none : drop (length (head ++ rest) - 6) (drop 6 (head ++ rest)) ≡ [] = drop_of_length-le (drop 6 (head ++ rest)) {i = length (head ++ rest) - 6} (omega (arith, length-drop 6 (head ++ rest))) in
-    ap (λ (x : List ℕ). x ++ (rows ++ drop (length (head ++ rest) - 6) (drop 6 (head ++ rest)))) front
-    ∙ ap (λ (x : List ℕ). head ++ (rows ++ x)) none
-    ∙ ap (λ (x : List ℕ). head ++ x) (append-nil rows)
-
 -- the record's words, put back
 record_put : (j r : List ℕ) (n k : ℕ) → length r ≡ 6 + k → take n j ++ (r ++ drop (n + 6 + k - n) (drop n j)) ≡ splice j n r
 unfolding splice
@@ -147,8 +115,3 @@ module _ (j : List ℕ) (v : ℕ) (b : Block) (old r : List ℕ) (n : ℕ) (room
 
   pub saved_is : set (take n j ++ (r ++ drop (n + 6 + positions b - n) (drop n j))) 0 n ≡ saved j v b old
   saved_is = rw (record_put j r n (positions b) long, here, new) (saved_splice j v b old all (room_end b j room))
-
-  pub word_inside : 0 < length (take n j ++ (r ++ drop (n + 6 + positions b - n) (drop n j)))
-  word_inside =
-      let fits = room_end b j room in
-      rw (record_put j r n (positions b) long, length-splice j n r (omega (arith, fits, long, here))) (omega (arith, fits))

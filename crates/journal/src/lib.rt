@@ -15,14 +15,13 @@ fn widen(depths: &[u8], words: &mut [u32])
     requires { length words.old ≡ length depths.now }
     ensures { words.new ≡ depths.now }
 {
-    let mut i = 0;
-    while i < depths.len() {
-        words[i] = depths[i] as u32;
-        i += 1;
+    for (i, depth) in depths.iter().enumerate() {
+        words[i] = u32::from(*depth);
     }
 }
 
 // The depths that stand in a block, one a word, row by row.
+#[tactic(auto, using(crate::proofs::Records::row_facts))]
 fn save_rows(
     w: usize,
     column: usize,
@@ -35,14 +34,12 @@ fn save_rows(
     requires { (InPlane w (block_of column row width height) depths.now) × (length words.old ≡ width * height) }
     ensures { words.new ≡ block_depths w (block_of column row width height) depths.now }
 {
-    let mut j = 0;
-    while j < height {
+    for j in 0..height {
         let from = (row + j) * w + column;
         let to = from + width;
         let at = j * width;
         let end = at + width;
         widen(&depths[from..to], &mut words[at..end]);
-        j += 1;
     }
 }
 
@@ -51,12 +48,14 @@ fn write_head(before: u32, view: u32, block: Block, words: &mut [u32])
     requires { length words.old ≡ 6 }
     ensures { words.new ≡ head_of before view block }
 {
-    words[0] = before;
-    words[1] = view;
-    words[2] = block.column;
-    words[3] = block.row;
-    words[4] = block.width;
-    words[5] = block.height;
+    words.copy_from_slice(&[
+        before,
+        view,
+        block.column,
+        block.row,
+        block.width,
+        block.height,
+    ]);
 }
 
 // A record, with the depths as they stand in the block.
@@ -73,6 +72,7 @@ fn write_record(before: u32, view: u32, block: Block, w: usize, depths: &[u8], w
 }
 
 // Saves view, block and the depths that stand in it as the newest record.
+#[tactic(auto, using(model::proofs::Refusals::room_end, model::proofs::Refusals::room_index))]
 pub fn save(view: u32, block: Block, w: usize, depths: &[u8], journal: &mut [u32])
     requires { (InPlane w block depths.now) × (room_ok block journal.old ≡ true) }
     ensures { journal.new ≡ saved journal.old view block (block_depths w block depths.now) }

@@ -13,6 +13,7 @@ ghost use Rattle.limits.specs.Limits.{limit_below, limit_under, LastHeld, EdgeHe
 use pixel::Edge;
 
 // The place of the column after c, or the row's end.
+#[tactic(auto, using(model::proofs::Views::length_seen), unfolding(pixel::specs::Pairs::next_place))]
 pub fn next_place(right: bool, table: &[u16; 256], depths: &[u8], c: usize) -> u32
     requires { (table_ok table.now ≡ true) × ((c < length depths.now) × (length depths.now ≤ 4096)) }
     ensures { result ≡ next_place table.now (seen right depths.now) c }
@@ -34,12 +35,12 @@ pub fn held_limit(right: bool, limits: &[i16], c: usize) -> u32
 }
 
 // What is taken for the limit of column n, whose place, or the row's end, is `next`.
+#[tactic(auto, using(model::proofs::Views::length_seen), unfolding(crate::specs::Limits::limit_under))]
 pub fn limit_under(right: bool, limits: &[i16], n: usize, next: u32) -> u32
     ensures { result ≡ limit_under (seen right limits.now) n next }
 {
     if n < limits.len() {
-        let held = held_limit(right, limits, n);
-        places::least(next, held)
+        next.min(held_limit(right, limits, n))
     } else {
         next
     }
@@ -50,10 +51,12 @@ fn edge_end(w: usize, n: usize) -> usize
     requires { (n < w) × (w ≤ 4096) }
     ensures { result ≡ min w (n + 256) }
 {
-    if w - n <= 256 { w } else { n + 256 }
+    w.min(n + 256)
 }
 
-// A column, of 256 from n on, at which the held limits stop being `high`, by halving: the last such where they are true, since true limits never fall to the right.
+// A column, of 256 from n on, at which the held limits stop being `high`, by halving: the last such where they are true, since true limits
+// never fall to the right. The slice's partition_point promises nothing of limits that do fall, and held ones may.
+#[tactic(auto, using(model::proofs::Views::length_seen))]
 fn last_held(right: bool, limits: &[i16], n: usize, high: u32) -> usize
     requires { (n < length limits.now) × (length limits.now ≤ 4096) }
     ensures { (LastHeld (seen right limits.now) n high result) × (result < length limits.now) }
@@ -73,6 +76,7 @@ fn last_held(right: bool, limits: &[i16], n: usize, high: u32) -> usize
 
 // The column of the edge at `high`, which is taken for the limit of column n: the greatest that is placed there, by the held limits. It is
 // looked for only where a position may show it.
+#[tactic(auto, using(model::proofs::Views::length_seen))]
 fn edge_column(right: bool, limits: &[i16], n: usize, high: u32) -> usize
     requires { (n ≤ length limits.now) × (length limits.now ≤ 4096) }
     ensures { (n < length limits.now → result < length limits.now) × (n < length limits.now → (high % 4 ≡ 1) → LastHeld (seen right limits.now) n high result) }
@@ -90,6 +94,7 @@ fn edge_column(right: bool, limits: &[i16], n: usize, high: u32) -> usize
 }
 
 // What is taken for the near edge right of the columns below n, where `high` is taken for the limit of column n.
+#[tactic(auto, using(model::proofs::Views::length_seen))]
 pub fn edge_of(right: bool, limits: &[i16], n: usize, high: u32) -> Edge
     requires { (n ≤ length limits.now) × (length limits.now ≤ 4096) }
     ensures { EdgeHeld (seen right limits.now) n high result }
@@ -101,6 +106,7 @@ pub fn edge_of(right: bool, limits: &[i16], n: usize, high: u32) -> Edge
 }
 
 // Writes the limits of the columns below `columns`, where `high` is taken for the limit of that column.
+#[tactic(auto, using(crate::proofs::Below::below_most, model::proofs::Views::length_seen))]
 pub fn draw_limits(
     right: bool,
     table: &[u16; 256],
@@ -113,12 +119,9 @@ pub fn draw_limits(
     requires columns_bound { (columns ≤ 4096) × (columns ≤ length limits.old) }
     ensures { Filled (pos 0) (λ c. signed (limit_below (place table.now (seen right depths.now)) high columns c)) 0 columns (seen right limits.old) (seen right limits.new) }
 {
-    let mut c = columns;
     let mut top = high;
-    while 0 < c {
-        c -= 1;
-        let here = places::place_of(right, table, depths, c);
-        top = places::least(here, top);
+    for c in (0..columns).rev() {
+        top = places::place_of(right, table, depths, c).min(top);
         places::put_limit(right, limits, c, signed::limit_of(top));
     }
 }

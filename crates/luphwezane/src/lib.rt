@@ -25,8 +25,8 @@ pub fn luph_raw_render(
         (planes.strip samples.old marks.old fronts.old)
         (planes.strip samples.new marks.new fronts.new)) result }
 {
-    let refusal = render::render(settings, view, texture, depths, samples, marks, fronts);
-    model::number(refusal)
+    let answer = render::render(settings, view, texture, depths, samples, marks, fronts);
+    answers::answered(answer)
 }
 
 // OPEN; the new total goes to `total`.

@@ -1,7 +1,7 @@
 // Packed hole marks: read, set and packed.
 #![tactic(auto)]
 
-ghost use Rattle.std.specs.Prelude.{◌≡◌, ℕ, ◌+◌, ◌*◌, ◌%◌, ◌<◌, ◌≤◌, length, get_or, replicate};
+ghost use Rattle.std.specs.Prelude.{◌≡◌, ℕ, ◌+◌, ◌*◌, ◌%◌, ◌<◌, ◌≤◌, length, get_or};
 ghost use Rattle.model.specs.Marks.{mark_bytes, mark_at, pack_row};
 ghost use Rattle.marks.specs.Puts.{put_bit, set_mark, put_marks, held_pixel};
 
@@ -16,6 +16,7 @@ pub fn mark_at(row: &[u8], p: usize) -> u8
 }
 
 // What a view holds at entry i of a row: sample, as it is read, mark and front depth.
+#[tactic(auto, unfolding(crate::specs::Puts::held_pixel))]
 pub fn held_pixel(samples: &[u16], fronts: &[u8], marks: &[u8], i: usize) -> Pixel
     requires { (i < length samples.now) × ((i < length fronts.now) × (i < 8 * length marks.now)) }
     ensures { result ≡ held_pixel samples.now fronts.now marks.now i }
@@ -45,26 +46,14 @@ pub fn put_mark(row: &mut [u8], p: usize, v: u8)
 }
 
 // Sets the marks from position start on; every other bit is kept.
+#[tactic(auto, unfolding(crate::specs::Puts::put_marks))]
 pub fn put_marks(row: &mut [u8], start: usize, flags: &[u8])
     requires flags_bound { (start + length flags.now ≤ 8 * length row.old) × (start + length flags.now ≤ 4096) }
     requires by_index { (i : ℕ) → get_or flags.now i 0 < 2 }
     ensures { row.new ≡ put_marks row.old start flags.now (length flags.now) }
 {
-    let mut i = 0;
-    while i < flags.len() {
-        put_mark(row, start + i, flags[i]);
-        i += 1;
-    }
-}
-
-// Clears every bit of a row.
-fn clear(row: &mut [u8])
-    ensures { row.new ≡ replicate (length row.old) 0 }
-{
-    let mut j = 0;
-    while j < row.len() {
-        row[j] = 0;
-        j += 1;
+    for (i, flag) in flags.iter().enumerate() {
+        put_mark(row, start + i, *flag);
     }
 }
 
@@ -74,6 +63,6 @@ pub fn pack(flags: &[u8], row: &mut [u8])
     requires by_index { (i : ℕ) → get_or flags.now i 0 < 2 }
     ensures { row.new ≡ pack_row (mark_bytes (length flags.now)) flags.now }
 {
-    clear(row);
+    row.fill(0);
     put_marks(row, 0, flags);
 }

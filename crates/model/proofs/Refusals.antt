@@ -1,4 +1,5 @@
 -- The refusals: each test as plain facts, and what a number of a list says of the tests.
+--     some_number                         no refusal has the number 0
 --     ..-yes, ..-facts                    a test from its facts, and the facts from the test
 --     Before, common_before, ..           a number that applies is the same whatever follows in the list; where none applies, what follows decides
 --     call_late, call_early, taken-..     8 decides exactly where nothing before it does
@@ -16,9 +17,11 @@ use lib.ListN.{length, get_or}
 use lib.Dec.{leb, eqb}
 use lib.IntN.{ℤ, pos, ◌+ℤ◌, ◌-ℤ◌, +ℤ_comm, -ℤ-+ℤ_cancel}
 use borrow.Author.Tests.{le-leb, lt-leb, leb-true, lt-ltb, le-ltb, ltb-true, eq-eqb, eqb-true, eqb-false}
+use Rattle.std.specs.Prelude.{Result, Ok, Err, is_err, IsErrAnd}
 use Rattle.model.specs.declared.Tear.{Tear}
 use Rattle.model.specs.declared.Settings.{Settings}
 use Rattle.model.specs.declared.Block.{Block}
+use Rattle.model.specs.declared.Refusal.{Refusal}
 use Rattle.model.specs.declared.Split.TheVariants.{Line, Mask}
 use Rattle.model.specs.declared.Candidate.{Candidate}
 use Rattle.model.specs.declared.Candidate.TheVariants.{Full, Flat, Regions}
@@ -27,9 +30,41 @@ use Rattle.model.specs.Combined.{worst}
 use Rattle.model.specs.Planes.{Pictures, Depths, View, Held, area, with_total}
 use Rattle.model.specs.Candidates.{positions, line_ok}
 use Rattle.model.specs.Journals.{record_size, next_index}
-use Rattle.model.specs.Refusals.{unless, side_ok, size_ok, pictures_sized, depths_sized, view_sized, held_sized, planes_sized, up_to, table_ok, tables_ok, share_ok, tear_ok, block_ok, view_ok, candidate_then, within, in_range, words_ok, journal_ok, room_ok, some_record, common_then, own_then, saving_then, taking_then, open_number, early_number, call_then, take_back_number, take_back_early}
-use Rattle.model.proofs.Choice.{bool_cases, and_true, and_left, and_right, and_off}
+use Rattle.model.specs.Refusals.{number_of, answer_number, unless, side_ok, size_ok, pictures_sized, depths_sized, view_sized, held_sized, planes_sized, up_to, table_ok, tables_ok, share_ok, tear_ok, block_ok, view_ok, candidate_then, within, in_range, words_ok, journal_ok, room_ok, some_record, common_then, own_then, saving_then, taking_then, open_number, early_number, call_then, take_back_number, take_back_early}
+use Rattle.model.proofs.Choice.{clash, bool_cases, and_true, and_left, and_right, and_off}
 use Rattle.model.proofs.Fresh.{DepthsOf}
+
+-- ---- a refusal has a number
+
+pub some_number : (r : Refusal) → number_of r ≡ 0 → ⊥
+some_number Refusal.Size e = absurd (omega arith)
+some_number Refusal.Plane e = absurd (omega arith)
+some_number Refusal.Table e = absurd (omega arith)
+some_number Refusal.Share e = absurd (omega arith)
+some_number Refusal.Bounds e = absurd (omega arith)
+some_number Refusal.View e = absurd (omega arith)
+some_number Refusal.Candidate e = absurd (omega arith)
+some_number Refusal.Total e = absurd (omega arith)
+some_number Refusal.JournalFull e = absurd (omega arith)
+some_number Refusal.NothingToTakeBack e = absurd (omega arith)
+some_number Refusal.Journal e = absurd (omega arith)
+some_number Refusal.Line e = absurd (omega arith)
+some_number Refusal.Mask e = absurd (omega arith)
+some_number Refusal.Gap e = absurd (omega arith)
+some_number Refusal.Sample e = absurd (omega arith)
+
+pub err_number : (r : Result (Unit {0}) Refusal) → is_err r ≡ true → answer_number r ≡ 0 → ⊥
+err_number (Ok x) t e = clash t refl
+err_number (Err r) t e = some_number r e
+
+pub ok_number : (r : Result (Unit {0}) Refusal) → is_err r ≡ false → answer_number r ≡ 0
+ok_number (Ok x) t = refl
+ok_number (Err r) t = absurd (clash refl t)
+
+-- what `?` hands on
+pub err_from : {A : Type 0} (r : Result A Refusal) (e : Refusal) → IsErrAnd r (λ (x : Refusal). x ≡ e) → Err e ≡ r
+err_from (Ok x) e f = absurd f
+err_from {A} (Err x) e f = ap (λ (y : Refusal). Err y) (sym f)
 
 -- ---- one test of a list
 
@@ -54,6 +89,10 @@ none_before = record { rest = λ k e. refl; stays = λ k ne. absurd (ne refl) }
 pub one_before : (t : Bool) (n : ℕ) (tests : ℕ → ℕ) → Before tests → Before (λ k. unless t (suc n) (tests k))
 one_before true n tests f = f
 one_before false n tests f = record { rest = λ k e. absurd (omega arith); stays = λ k ne. refl }
+
+-- what a list turned down is turned down whatever follows
+pub refused_before : {f : ℕ → ℕ} → Before f → (r : Refusal) (rest : ℕ) → number_of r ≡ f 0 → number_of r ≡ f rest
+refused_before a r rest e = e ∙ sym (a.stays rest (λ z. some_number r (e ∙ z)))
 
 module _ {f : ℕ → ℕ} (a : Before f) where
   -- what is not refused has passed these tests, and then the rest

@@ -12,7 +12,7 @@ use lib.Arith.{digits_div, digits_mod}
 use lib.Dec.{ltb, eqb}
 use Rattle.model.specs.declared.Settings.{Settings}
 use Rattle.model.specs.declared.Report.{Report}
-use Rattle.model.specs.declared.Report.TheVariants.{Refused, Sound, Difference, Total}
+use Rattle.model.specs.declared.Report.TheVariants.{Sound, Difference, Total}
 use Rattle.model.specs.Planes.{Pictures, Depths, Held, area}
 use Rattle.model.specs.Fresh.{fresh, fresh_total}
 use Rattle.model.specs.Reports.{same_at, first_bad, first_difference, report_of}
@@ -86,7 +86,6 @@ abbrev pub SameUpTo : Settings → Held → Held → ℕ → Type 0
 SameUpTo s a b n = (y x : ℕ) → y < s.h → x < s.w → y * s.w + x < n → same_at s.w a b y x ≡ true
 
 unfoldable pub Means : Settings → Pictures → Depths → Held → Report → Type 0
-Means s p d h (Refused r) = ⊥
 Means s p d h Sound = SameUpTo s h (fresh s p d) (area s) × (s.total ≡ fresh_total s p d)
 Means s p d h (Difference y x) =
     (y < s.h) × (x < s.w) × SameUpTo s h (fresh s p d) (y * s.w + x) × (same_at s.w h (fresh s p d) y x ≡ false)

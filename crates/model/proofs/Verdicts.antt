@@ -19,7 +19,7 @@ use lib.ListN.{length, get_or, drop, length-take, get_or-eq_default}
 use lib.Seq.{ext_get_or}
 use Rattle.model.specs.declared.Settings.{Settings}
 use Rattle.model.specs.declared.Report.{Report}
-use Rattle.model.specs.declared.Report.TheVariants.{Refused, Sound, Difference, Total}
+use Rattle.model.specs.declared.Report.TheVariants.{Sound, Difference, Total}
 use Rattle.model.specs.Lists.{row_of, entry_at}
 use Rattle.model.specs.Marks.{mark_bytes, mark_at, spare_bits}
 use Rattle.model.specs.Planes.{Pictures, Depths, View, Held, area, view, held}
@@ -269,14 +269,12 @@ module _ (s : Settings) (p : Pictures) (d : Depths) (h : Held) (common : Common 
 
   sound_by : (r : Report) → Means s p d h r → h ≡ fresh s p d → s.total ≡ fresh_total s p d → r ≡ Sound
   unfolding Means
-  sound_by (Refused r) m e t = absurd m
   sound_by Sound m e t = refl
   sound_by (Difference y x) m e t = absurd (no_difference y x e m.3)
   sound_by Total m e t = absurd (m.1 t)
 
   total_by : (r : Report) → Means s p d h r → h ≡ fresh s p d → (s.total ≡ fresh_total s p d → ⊥) → r ≡ Total
   unfolding Means
-  total_by (Refused r) m e t = absurd m
   total_by Sound m e t = absurd (t m.1)
   total_by (Difference y x) m e t = absurd (no_difference y x e m.3)
   total_by Total m e t = refl

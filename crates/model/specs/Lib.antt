@@ -12,4 +12,5 @@ pub mod Journals
 pub mod Span
 pub mod Reports
 pub mod Refusals
+pub mod Replies
 pub mod Promises

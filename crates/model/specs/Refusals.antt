@@ -1,5 +1,5 @@
 -- Document 01, "Calls and what they turn down": the numbers of the refusals, and the first that applies to a call, 0 for none.
-use Rattle.std.specs.Prelude.{ℕ, zero, suc, ◌+◌, ◌*◌, Bool, true, false, not, ◌&&◌, ◌||◌, List, [], ◌∷◌, ℤ, pos, negsuc, ◌+ℤ◌, length, leb, ltb, eqb}
+use Rattle.std.specs.Prelude.{ℕ, zero, suc, ◌+◌, ◌*◌, Bool, true, false, not, ◌&&◌, ◌||◌, List, [], ◌∷◌, ℤ, pos, negsuc, ◌+ℤ◌, length, leb, ltb, eqb, Result, Ok, Err}
 use Rattle.model.specs.declared.Tear.{Tear}
 use Rattle.model.specs.declared.Settings.{Settings}
 use Rattle.model.specs.declared.Block.{Block}
@@ -7,8 +7,6 @@ use Rattle.model.specs.declared.Refusal.{Refusal}
 use Rattle.model.specs.declared.Split.TheVariants.{Line, Mask}
 use Rattle.model.specs.declared.Candidate.{Candidate}
 use Rattle.model.specs.declared.Candidate.TheVariants.{Full, Flat, Regions}
-use Rattle.model.specs.declared.Report.{Report}
-use Rattle.model.specs.declared.Count.{Count}
 use Rattle.model.specs.Row.{greatest}
 use Rattle.model.specs.Marks.{mark_bytes}
 use Rattle.model.specs.Combined.{worst}
@@ -17,9 +15,8 @@ use Rattle.model.specs.Planes.{Pictures, Depths, Held, Strip, area}
 use Rattle.model.specs.Candidates.{positions, line_ok}
 use Rattle.model.specs.Journals.{newest, index_before, record_view, record_block, record_depths, record_size, record_end, next_index}
 
--- the number of a refusal, 0 where the call is accepted
+-- the number of a refusal
 abbrev pub number_of : Refusal → ℕ
-number_of Refusal.None = 0
 number_of Refusal.Size = 1
 number_of Refusal.Plane = 2
 number_of Refusal.Table = 3
@@ -36,16 +33,10 @@ number_of Refusal.Mask = 15
 number_of Refusal.Gap = 20
 number_of Refusal.Sample = 21
 
--- the same of what CHECK answers, and of what HOLES answers
-abbrev pub report_number : Report → ℕ
-report_number (Report.Refused r) = number_of r
-report_number Report.Sound = 0
-report_number (Report.Difference row column) = 0
-report_number Report.Total = 0
-
-abbrev pub count_number : Count → ℕ
-count_number (Count.Refused r) = number_of r
-count_number (Count.Holes n) = 0
+-- the number of an answer, 0 where the call is accepted
+abbrev pub answer_number : {A : Type 0} → Result A Refusal → ℕ
+answer_number (Ok x) = 0
+answer_number (Err r) = number_of r
 
 -- number k where the test fails, else the rest of the list
 abbrev pub unless : Bool → ℕ → ℕ → ℕ

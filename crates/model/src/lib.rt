@@ -80,10 +80,9 @@ pub struct Pixel {
     pub front: u8,
 }
 
-// Why a call is refused; `None` where it is accepted.
-#[derive(Clone, Copy)]
+// Why a call is refused.
+#[derive(Clone, Copy, Debug, PartialEq, Eq)]
 pub enum Refusal {
-    None,
     Size,
     Plane,
     Table,
@@ -101,24 +100,9 @@ pub enum Refusal {
     Sample,
 }
 
-// What OPEN and MOVE answer.
-#[derive(Drop)]
-pub struct Opened {
-    pub refusal: Refusal,
-    pub settings: Settings,
-}
-
-// What GET answers.
-#[derive(Drop)]
-pub struct Trial {
-    pub refusal: Refusal,
-    pub change: i64,
-}
-
-// What SET and TAKE BACK answer.
+// What SET and TAKE BACK answer: the change of the total, and the settings with the new total.
 #[derive(Drop)]
 pub struct Edited {
-    pub refusal: Refusal,
     pub change: i64,
     pub settings: Settings,
 }
@@ -126,40 +110,33 @@ pub struct Edited {
 // What CHECK answers.
 #[derive(Drop)]
 pub enum Report {
-    Refused(Refusal),
     Sound,
     Difference { row: u32, column: u32 },
     Total,
 }
 
-// What HOLES answers.
-#[derive(Drop)]
-pub enum Count {
-    Refused(Refusal),
-    Holes(u64),
-}
+// The number of a refusal in document 01.
+impl From<Refusal> for u32 {
+    ghost from_gives = { λ refusal number. number ≡ number_of refusal };
 
-// The number of a refusal in document 01, 0 for none.
-pub fn number(refusal: Refusal) -> u32
-    ensures { result ≡ number_of refusal }
-{
-    match refusal {
-        Refusal::None => 0,
-        Refusal::Size => 1,
-        Refusal::Plane => 2,
-        Refusal::Table => 3,
-        Refusal::Share => 4,
-        Refusal::Bounds => 5,
-        Refusal::View => 6,
-        Refusal::Candidate => 7,
-        Refusal::Total => 8,
-        Refusal::JournalFull => 11,
-        Refusal::NothingToTakeBack => 12,
-        Refusal::Journal => 13,
-        Refusal::Line => 14,
-        Refusal::Mask => 15,
-        Refusal::Gap => 20,
-        Refusal::Sample => 21,
+    fn from(refusal: Refusal) -> u32 {
+        match refusal {
+            Refusal::Size => 1,
+            Refusal::Plane => 2,
+            Refusal::Table => 3,
+            Refusal::Share => 4,
+            Refusal::Bounds => 5,
+            Refusal::View => 6,
+            Refusal::Candidate => 7,
+            Refusal::Total => 8,
+            Refusal::JournalFull => 11,
+            Refusal::NothingToTakeBack => 12,
+            Refusal::Journal => 13,
+            Refusal::Line => 14,
+            Refusal::Mask => 15,
+            Refusal::Gap => 20,
+            Refusal::Sample => 21,
+        }
     }
 }
 

@@ -1,17 +1,20 @@
--- MOVE from OPEN: what OPEN promises of the settings n is what MOVE promises, but for the settings that a refused call answers.
---     kept, moved     the two ways out of MOVE
-use mathlib.Core.Path.{◌≡◌, refl}
+-- MOVE from OPEN: what OPEN promises of the settings n is what MOVE promises, but for the settings s that the caller of a refused one keeps.
+--     kept, moved     refused, and accepted
+--     answered        whichever it is
+use mathlib.Core.Path.{refl}
 use mathlib.Core.List.{List}
 use Prim.Native.Nat.{ℕ}
+use Rattle.std.specs.Prelude.{Result, Ok, Err}
 use Rattle.model.specs.declared.Settings.{Settings}
-use Rattle.model.specs.declared.Opened.{Opened}
+use Rattle.model.specs.declared.Refusal.{Refusal}
 use Rattle.model.specs.Planes.{Pictures, Depths, Held}
-use Rattle.model.specs.Refusals.{number_of}
+use Rattle.model.specs.Replies.{open_reply}
 use Rattle.model.specs.Promises.{FillPost, OpenPost}
+use Rattle.model.proofs.Refusals.{some_number}
 
-module _ (s n : Settings) {p : Pictures} {d : Depths} {h₀ h : Held} {j₀ j : List ℕ} {r : Opened} (o : OpenPost n p d h₀ h j₀ j r) where
-  pub kept : (number_of r.refusal ≡ 0 → ⊥) → FillPost s n p d h₀ h j₀ j (record { refusal = r.refusal; settings = s })
-  kept ne =
+module _ (s n : Settings) {p : Pictures} {d : Depths} {h₀ h : Held} {j₀ j : List ℕ} where
+  kept : (r : Refusal) → OpenPost n p d h₀ h j₀ j (open_reply n (Err r)) → FillPost s n p d h₀ h j₀ j (open_reply s (Err r))
+  kept r o =
       record {
         number = o.number;
         refused_held = o.refused_held;
@@ -19,19 +22,23 @@ module _ (s n : Settings) {p : Pictures} {d : Depths} {h₀ h : Held} {j₀ j : 
         refused_settings = λ u. refl;
         held = o.held;
         journal = o.journal;
-        settings = λ z. absurd (ne z);
+        settings = λ z. absurd (some_number r z);
         eight_bit = o.eight_bit;
       }
 
-  pub moved : number_of r.refusal ≡ 0 → FillPost s n p d h₀ h j₀ j r
-  moved z =
+  moved : (next : Settings) → OpenPost n p d h₀ h j₀ j (open_reply n (Ok next)) → FillPost s n p d h₀ h j₀ j (open_reply s (Ok next))
+  moved next o =
       record {
         number = o.number;
         refused_held = o.refused_held;
         refused_journal = o.refused_journal;
-        refused_settings = λ ne. absurd (ne z);
+        refused_settings = λ ne. absurd (ne refl);
         held = o.held;
         journal = o.journal;
         settings = o.settings;
         eight_bit = o.eight_bit;
       }
+
+  pub answered : (r : Result Settings Refusal) → OpenPost n p d h₀ h j₀ j (open_reply n r) → FillPost s n p d h₀ h j₀ j (open_reply s r)
+  answered (Err r) o = kept r o
+  answered (Ok next) o = moved next o

@@ -3,31 +3,25 @@
 
 ghost use Rattle.std.specs.Prelude.{◌≡◌};
 ghost use Rattle.model.specs.Planes.{pictures, depths, view, held, with_seat};
+ghost use Rattle.model.specs.Replies.{open_reply};
 ghost use Rattle.model.specs.Promises.{MovePost};
 
-use model::{Opened, Settings};
+use model::{Refusal, Settings};
 
 // The settings with the tables, share, tolerance and tear of others; w, h and total stay.
 fn with_seat(settings: Settings, to: Settings) -> Settings
     ensures { result ≡ with_seat settings to }
 {
-    let left = to.left;
-    let right = to.right;
-    let tear = to.tear;
     Settings {
         w: settings.w,
         h: settings.h,
-        left: left,
-        right: right,
-        share: to.share,
-        tolerance: to.tolerance,
-        tear: tear,
         total: settings.total,
+        ..to
     }
 }
 
-// MOVE is OPEN with the new settings over the depths as they stand, and so is judged, draws and empties the journal as OPEN does; a refused one answers the
-// settings that it was passed.
+// MOVE is OPEN with the new settings over the depths as they stand, and so is judged, draws and empties the journal as OPEN does.
+#[tactic(auto, using(crate::proofs::Moving::answered))]
 pub fn move_seat(
     settings: Settings,
     to: Settings,
@@ -46,15 +40,15 @@ pub fn move_seat(
     rightMarks: &mut [u8],
     combined: &mut [u16],
     journal: &mut [u32],
-) -> Opened
+) -> Result<Settings, Refusal>
     ensures { MovePost settings to (pictures left.now right.now reference.now) (depths leftDepths.now rightDepths.now)
         (held (view leftSamples.old leftFronts.old leftLimits.old leftMarks.old)
         (view rightSamples.old rightFronts.old rightLimits.old rightMarks.old) combined.old)
         (held (view leftSamples.new leftFronts.new leftLimits.new leftMarks.new)
         (view rightSamples.new rightFronts.new rightLimits.new rightMarks.new) combined.new)
-        journal.old journal.new result }
+        journal.old journal.new (open_reply settings result) }
 {
-    let opened = open::open(
+    open::open(
         with_seat(settings, to),
         left,
         right,
@@ -71,13 +65,5 @@ pub fn move_seat(
         rightMarks,
         combined,
         journal,
-    );
-    let refusal = opened.refusal;
-    if model::number(refusal) != 0 {
-        return Opened {
-            refusal: refusal,
-            settings: settings,
-        };
-    }
-    opened
+    )
 }

@@ -8,14 +8,15 @@ use mathlib.Core.Bool.{true, false}
 use mathlib.Core.List.{List}
 use lib.ListN.{length, set}
 use borrow.Author.Tests.{ltb-true}
+use Rattle.std.specs.Prelude.{Ok, Err}
 use Rattle.model.specs.declared.Settings.{Settings}
 use Rattle.model.specs.declared.Refusal.{Refusal}
-use Rattle.model.specs.declared.Refusal.TheVariants.{None}
 use Rattle.model.specs.Planes.{Pictures, Depths, Held, with_total}
 use Rattle.model.specs.Fresh.{fresh_view, fresh, fresh_total}
 use Rattle.model.specs.Refusals.{number_of, unless, words_ok, pictures_ok, open_number}
+use Rattle.model.specs.Replies.{open_reply}
 use Rattle.model.specs.Promises.{EightBit, OpenPost}
-use Rattle.model.proofs.Refusals.{Common, unless_true, rest_passed, common_before}
+use Rattle.model.proofs.Refusals.{some_number, Common, unless_true, rest_passed, common_before}
 use Rattle.model.proofs.Journals.{set_newest}
 use Rattle.draw.specs.Drawn.{PlanesOf}
 use Rattle.draw.specs.Combination.{held_rows, PictureCombined}
@@ -96,24 +97,24 @@ words_some s p d g j e =
 -- ---- the two ways out
 
 pub refused :
-    (s : Settings) (p : Pictures) (d : Depths) (g : Held) (j : List ℕ) (r : Refusal) → number_of r ≡ open_number s p d g j → (number_of r ≡ 0 → ⊥) →
-    EightBit d → OpenPost s p d g g j j (record { refusal = r; settings = s })
-refused s p d g j r e ne eight =
+    (s : Settings) (p : Pictures) (d : Depths) (g : Held) (j : List ℕ) (r : Refusal) → number_of r ≡ open_number s p d g j → EightBit d →
+    OpenPost s p d g g j j (open_reply s (Err r))
+refused s p d g j r e eight =
     record {
       number = e;
       refused_held = λ _. refl;
       refused_journal = λ _. refl;
       refused_settings = λ _. refl;
-      held = λ z. absurd (ne z);
-      journal = λ z. absurd (ne z);
-      settings = λ z. absurd (ne z);
+      held = λ z. absurd (some_number r z);
+      journal = λ z. absurd (some_number r z);
+      settings = λ z. absurd (some_number r z);
       eight_bit = eight;
     }
 
 pub opened :
     (s : Settings) (p : Pictures) (d : Depths) (g₀ g : Held) (j : List ℕ) (total : ℕ) → open_number s p d g₀ j ≡ 0 → Common s p d g →
     Filled s.left s.right s.share s.tolerance s.tear s.w s.h p d g total → EightBit d →
-    OpenPost s p d g₀ g j (set j 0 0) (record { refusal = None; settings = with_total s total })
+    OpenPost s p d g₀ g j (set j 0 0) (open_reply s (Ok (with_total s total)))
 opened s p d g₀ g j total e c f eight =
     record {
       number = sym e;

@@ -2,9 +2,10 @@
 #![tactic(auto)]
 
 ghost use Rattle.model.specs.Planes.{pictures, depths, view, held};
+ghost use Rattle.model.specs.Replies.{open_reply};
 ghost use Rattle.model.specs.Promises.{OpenPost};
 
-use model::{Opened, Refusal, Settings};
+use model::{Refusal, Settings};
 use validate::{Lengths, ViewLengths};
 
 // OPEN fills all held planes from the pictures and depths, empties the journal, and answers the settings with the total; a total passed in is ignored.
@@ -25,24 +26,21 @@ pub fn open(
     rightMarks: &mut [u8],
     combined: &mut [u16],
     journal: &mut [u32],
-) -> Opened
+) -> Result<Settings, Refusal>
     ensures { OpenPost settings (pictures left.now right.now reference.now) (depths leftDepths.now rightDepths.now)
         (held (view leftSamples.old leftFronts.old leftLimits.old leftMarks.old)
         (view rightSamples.old rightFronts.old rightLimits.old rightMarks.old) combined.old)
         (held (view leftSamples.new leftFronts.new leftLimits.new leftMarks.new)
         (view rightSamples.new rightFronts.new rightLimits.new rightMarks.new) combined.new)
-        journal.old journal.new result }
+        journal.old journal.new (open_reply settings result) }
 {
-    let leftTable = settings.left;
-    let rightTable = settings.right;
-    let tear = settings.tear;
-    let refusal = lists::open_refusal(
+    lists::open_refusal(
         settings.w,
         settings.h,
-        &leftTable,
-        &rightTable,
+        &settings.left,
+        &settings.right,
         settings.share,
-        tear,
+        settings.tear,
         Lengths {
             left: ViewLengths {
                 texture: left.len(),
@@ -67,19 +65,13 @@ pub fn open(
         left,
         right,
         reference,
-    );
-    if model::number(refusal) != 0 {
-        return Opened {
-            refusal: refusal,
-            settings: settings,
-        };
-    }
+    )?;
     let total = fresh::fill(
-        &leftTable,
-        &rightTable,
+        &settings.left,
+        &settings.right,
         settings.share,
         settings.tolerance,
-        tear,
+        settings.tear,
         settings.w as usize,
         settings.h as usize,
         left,
@@ -98,10 +90,5 @@ pub fn open(
         combined,
     );
     journal[0] = 0;
-    let mut next = settings;
-    next.total = total;
-    Opened {
-        refusal: Refusal::None,
-        settings: next,
-    }
+    Ok(Settings { total, ..settings })
 }

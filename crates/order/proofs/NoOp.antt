@@ -12,14 +12,11 @@ use borrow.Author.Tests.{eq-eqb}
 use Rattle.model.specs.declared.Settings.{Settings}
 use Rattle.model.specs.declared.Block.{Block}
 use Rattle.model.specs.declared.Candidate.{Candidate}
-use Rattle.model.specs.declared.Opened.{Opened}
-use Rattle.model.specs.declared.Trial.{Trial}
-use Rattle.model.specs.declared.Edited.{Edited}
+use Rattle.model.specs.Replies.{OpenReply, TrialReply, EditReply}
 use Rattle.model.specs.Planes.{Pictures, Depths, Held, State, read_held}
 use Rattle.model.specs.Candidates.{filled}
 use Rattle.model.specs.Blocks.{old_depths, change_of}
 use Rattle.model.specs.Journals.{emptied}
-use Rattle.model.specs.Refusals.{number_of}
 use Rattle.model.specs.Promises.{OpenPost, Sound, GetPost, SetPost}
 use Rattle.model.proofs.Fresh.{DepthsSized}
 use Rattle.model.proofs.Written.{written_old}
@@ -49,12 +46,12 @@ module _ (r : Plain) (sized : DepthsSized r.settings r.depths) (v : ℕ) (b : Bl
 -- ---- GET and SET on a sound session
 
 module _ (s : Settings) (p : Pictures) (d : Depths) (h : Held) (v : ℕ) (b : Block) (c : Candidate) (x : List ℕ) (has : filled b c x ≡ old_depths s v b d) where
-  pub get_no_op : (t : Trial) → GetPost s p d h v b c x t → Sound s p d (read_held h) → number_of t.refusal ≡ 0 → t.change ≡ pos 0
+  pub get_no_op : (t : TrialReply) → GetPost s p d h v b c x t → Sound s p d (read_held h) → t.number ≡ 0 → t.change ≡ pos 0
   get_no_op t post sound z =
       let e = get_early s p d h v b c x post z in
       post.change z ∙ post.decided e sound ∙ no_change (plain s p d) (early_facts s p d h v b c (length x) e).0.depths v b has
 
-  pub set_no_op : (e : Depths) (g : Held) (j k : List ℕ) (t : Edited) → SetPost s p d e h g j k v b c x t → Sound s p d h → number_of t.refusal ≡ 0 → (t.change ≡ pos 0) × (leaves t.settings e g ≡ leaves s d h)
+  pub set_no_op : (e : Depths) (g : Held) (j k : List ℕ) (t : EditReply) → SetPost s p d e h g j k v b c x t → Sound s p d h → t.number ≡ 0 → (t.change ≡ pos 0) × (leaves t.settings e g ≡ leaves s d h)
   set_no_op e g j k t post sound z =
       let sized = (tested s p d e h g j k v b c x t post z sound).depths in (
         set_change s p d e h g j k v b c x t post z sound ∙ no_change (plain s p d) sized v b has,
@@ -87,7 +84,7 @@ shared_call_no_op r ok (shared-move to reference) = tt
 
 -- ---- after an accepted OPEN
 
-module _ (s : Settings) (p : Pictures) (d : Depths) (h₀ h : Held) (j₀ j : List ℕ) (o : Opened) (post : OpenPost s p d h₀ h j₀ j o) (yes : number_of o.refusal ≡ 0) where
+module _ (s : Settings) (p : Pictures) (d : Depths) (h₀ h : Held) (j₀ j : List ℕ) (o : OpenReply) (post : OpenPost s p d h₀ h j₀ j o) (yes : o.number ≡ 0) where
   leaves_first : leaves o.settings d h ≡ plain_state (plain s p d)
   leaves_first = fill_leaves s s p d h₀ h j₀ j o post yes
 

@@ -5,24 +5,25 @@
 --     two_orders               the first case: two SETs, nothing between
 --     run_order, shared_order  the same after any run of either kind
 use Prim.Native.Nat.{ℕ}
-use mathlib.Core.Path.{◌≡◌, refl, sym, ap, ◌∙◌, subst}
+use mathlib.Core.Path.{◌≡◌, refl, sym, ap, ◌∙◌}
 use mathlib.Core.List.Permᴰ
 use mathlib.Core.List.{List, [], ◌∷◌}
 use lib.Dec.{eqb}
-use lib.IntN.{ℤ, pos, ◌+ℤ◌, ◌-ℤ◌, +ℤ_comm, +ℤ_idr, +ℤ_invr}
+use lib.IntN.{ℤ, pos, ◌+ℤ◌, ◌-ℤ◌, +ℤ_idr, +ℤ_invr}
 use lib.ListN.{length}
+use native.Mathlib.Omega.{arith}
+use Rattle.std.proofs.lemmas.Int.{ints}
 use borrow.Author.Tests.{eq-eqb, ne_eqb, eqb-true, eqb-false}
 use Rattle.model.specs.declared.Settings.{Settings}
 use Rattle.model.specs.declared.Block.{Block}
 use Rattle.model.specs.declared.Candidate.{Candidate}
-use Rattle.model.specs.declared.Edited.{Edited}
+use Rattle.model.specs.Replies.{EditReply}
 use Rattle.model.specs.Planes.{Pictures, Depths, Held, State}
 use Rattle.model.specs.Candidates.{filled}
 use Rattle.model.specs.Blocks.{written, change_of}
-use Rattle.model.specs.Refusals.{number_of, early_number}
+use Rattle.model.specs.Refusals.{early_number}
 use Rattle.model.specs.Promises.{Sound, SetPost}
 use Rattle.model.proofs.Choice.{bool_cases}
-use Rattle.model.proofs.Signs.{minus, sub_ℕ_chain}
 use Rattle.model.proofs.Refusals.{Common, early_facts}
 use Rattle.model.proofs.Readings.{sound_read}
 use Rattle.model.proofs.Promises.{set_early, edit_settings}
@@ -43,7 +44,7 @@ pub sound_state : (p : Pictures) (st : State) → Sound st.settings p st.depths 
 unfolding plain_state
 sound_state p st h = rw (← h.held, ← h.total)
 
-module _ (s : Settings) (p : Pictures) (d e : Depths) (h g : Held) (j k : List ℕ) (v : ℕ) (b : Block) (c : Candidate) (x : List ℕ) (t : Edited) (post : SetPost s p d e h g j k v b c x t) (accepted : number_of t.refusal ≡ 0) (sound : Sound s p d h) where
+module _ (s : Settings) (p : Pictures) (d e : Depths) (h g : Held) (j k : List ℕ) (v : ℕ) (b : Block) (c : Candidate) (x : List ℕ) (t : EditReply) (post : SetPost s p d e h g j k v b c x t) (accepted : t.number ≡ 0) (sound : Sound s p d h) where
   early : early_number s p d h v b c (length x) ≡ 0
   early = set_early s p d h v b c x post accepted
 
@@ -63,11 +64,9 @@ module _ (s : Settings) (p : Pictures) (d e : Depths) (h g : Held) (j k : List �
   set_change = post.edit.change accepted ∙ post.edit.decided early (sound_read s p d tested.depths tested.share h sound)
 
 -- the same on the session of the record r: what it leaves is the session of r with the block written
-module _ (r : Plain) {p : Pictures} {st : State} (same : p ≡ r.pictures) (now : st ≡ plain_state r) {d : Depths} {h : Held} {j k : List ℕ} {v : ℕ} {b : Block} {c : Candidate} {x : List ℕ} {t : Edited} (post : SetPost st.settings p st.depths d st.held h j k v b c x t) (accepted : number_of t.refusal ≡ 0) where
+module _ (r : Plain) {p : Pictures} {st : State} (same : p ≡ r.pictures) (now : st ≡ plain_state r) {d : Depths} {h : Held} {j k : List ℕ} {v : ℕ} {b : Block} {c : Candidate} {x : List ℕ} {t : EditReply} (post : SetPost st.settings p st.depths d st.held h j k v b c x t) (accepted : t.number ≡ 0) where
   carried : SetPost (plain_state r).settings r.pictures (plain_state r).depths d (plain_state r).held h j k v b c x t
-  carried =
-      subst (λ (y : State). SetPost y.settings r.pictures y.depths d y.held h j k v b c x t) now
-      (subst (λ (q : Pictures). SetPost st.settings q st.depths d st.held h j k v b c x t) same post)
+  carried = rw (same, now) at post
 
   set_leaves : (leaves t.settings d h ≡ plain_state (edited r v b (filled b c x))) × (t.change ≡ pos (plain_total (edited r v b (filled b c x))) -ℤ pos (plain_total r))
   unfolding plain_state change_of written
@@ -77,10 +76,6 @@ module _ (r : Plain) {p : Pictures} {st : State} (same : p ≡ r.pictures) (now 
   )
 
 -- ---- a run
-
--- a change, and then another
-in_turn_lem : (a b c : ℕ) (x y : ℤ) → x ≡ pos b -ℤ pos a → y ≡ pos c -ℤ pos b → x +ℤ y ≡ pos c -ℤ pos a
-in_turn_lem a b c x y e f = +ℤ_comm x y ∙ rw (f, e, minus c b, minus b a, minus c a) (sub_ℕ_chain c b a)
 
 -- What is shown of a run from the record r with the SETs ks standing: after it ls stand, and its answers add to z.
 abbrev Made : Plain → List Edit → List Edit → ℤ → State → Type 0
@@ -93,17 +88,17 @@ unfolding AllUnmoved sets_after sum_of_answers in_turn
 run_made r ks halted p e stay = (e, sym (+ℤ_invr (pos (plain_total (with_standing r ks)))))
 run_made r ks (got t post run) p e (u, stay) = run_made r ks run p e stay
 run_made r ks (wrote {v = v} {b = b} {c = c} {x = x} {cs = cs} {es = es} t d h k post run) p e (u, stay) =
-    bool_cases (eqb (number_of t.refusal) 0)
+    bool_cases (eqb t.number 0)
     (λ q.
-    let s = set_leaves (with_standing r ks) p e post (eqb-true (number_of t.refusal) 0 q) in
+    let s = set_leaves (with_standing r ks) p e post (eqb-true t.number 0 q) in
     let m = run_made r (edit v b (filled b c x) ∷ ks) run p s.0 stay in
-    rw q (m.0, in_turn_lem (plain_total (with_standing r ks)) _ _ t.change (sum_of_answers cs es) s.1 m.1))
+    rw q (m.0, omega (arith, ints, s.1, m.1)))
     (λ q.
-    let z = eqb-false (number_of t.refusal) 0 q in
+    let z = eqb-false t.number 0 q in
     let f = post.edit in
     rw q (run_made r ks run p (rw (f.refused_settings z, f.refused_depths z, f.refused_held z) e) stay))
 run_made r ks (moved t h k post run) p e (u, stay) =
-    run_made r ks run (rw (ne_eqb (number_of t.refusal) 0 u) p) (rw (post.refused_settings u, post.refused_held u) e) stay
+    run_made r ks run (rw (ne_eqb t.number 0 u) p) (rw (post.refused_settings u, post.refused_held u) e) stay
 
 -- Two accepted SETs, nothing between: the first is v, b, c and x with the journal j, the second u, g, f and y with the journal k.
 module _ (v : ℕ) (b : Block) (c : Candidate) (x : List ℕ) (j : List ℕ) (e : Event) (u : ℕ) (g : Block) (f : Candidate) (y : List ℕ) (k : List ℕ) (i : Event) (first : e.reply.number ≡ 0) (second : i.reply.number ≡ 0) where

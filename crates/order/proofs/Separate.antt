@@ -3,25 +3,24 @@
 --     separate_sym                     it does not matter which is named first
 --     written_commutes                 two separate edits end alike in both orders
 --     still_separate, plain_order      and so do the edits of a list, any two of which are separate, in every order
-use Prim.Native.Nat.{ℕ, ◌+◌, ◌/◌, ◌%◌, ◌<◌, max}
+use Prim.Native.Nat.{ℕ, ◌/◌, ◌%◌, ◌<◌, max}
 use mathlib.Core.Path.{◌≡◌, refl, sym, ap, ◌∙◌, subst}
-use mathlib.Core.Bool.{Bool, true, false, cond, not, ◌||◌, or-true}
+use mathlib.Core.Bool.{Bool, true, false, cond, not, or-true}
 use mathlib.Core.Logic.{inl, inr}
 use mathlib.Core.List.Permᴰ
 use mathlib.Core.List.{List, ◌∷◌}
 use native.Mathlib.Omega.{arith}
-use lib.Dec.{leb}
 use lib.ListN.{length}
+use Rattle.std.proofs.lemmas.Bool.Decides.{nat_tests}
 use lib.Seq.{ext_get_or}
-use borrow.Author.Tests.{leb-false, lt-leb}
 use Rattle.model.specs.declared.Settings.{Settings}
 use Rattle.model.specs.declared.Block.{Block}
 use Rattle.model.specs.Views.{is_right}
 use Rattle.model.specs.Planes.{Depths}
-use Rattle.model.specs.Blocks.{in_block, candidate_at, written_plane, written}
-use Rattle.model.proofs.Choice.{bool_cases, clash, or_false}
+use Rattle.model.specs.Blocks.{in_block, written_plane, written}
+use Rattle.model.proofs.Choice.{bool_cases, clash}
 use Rattle.model.proofs.Refusals.{Inside}
-use Rattle.model.proofs.Written.{length-written, written_entry, Covers, covers, covers_yes}
+use Rattle.model.proofs.Written.{length-written, written_entry, Covers, covers}
 use Rattle.run.specs.Run.{Plain, plain}
 use Rattle.run.specs.Shared.{in_turn, with_standing}
 use Rattle.order.specs.Separate.{Edit, Disjoint, Separate, SeparateFrom, AllSeparate, apart, separate, other_view}
@@ -29,26 +28,11 @@ use Rattle.order.specs.Orders.{Reordered}
 
 -- ---- the usual test
 
-or_none : (a b : Bool) → a ≡ false → b ≡ false → (a || b) ≡ false
-or_none a b e f = rw (e, f)
-
-or_first : (a b : Bool) → a ≡ true → (a || b) ≡ true
-or_first a b e = rw e
-
-or_second : (a b : Bool) → b ≡ true → (a || b) ≡ true
-or_second a b e = rw (e, or-true)
-
-or_else : (a b : Bool) → a ≡ false → (a || b) ≡ true → b ≡ true
-or_else a b f e = rw f at e
-
 module _ (a b : Block) where
   -- a position in both: none ends before the other begins
   shared_fails : (y x : ℕ) → Covers a y x → Covers b y x → apart a b ≡ false
   unfolding apart
-  shared_fails y x h k =
-      or_none _ _
-      (or_none _ _ (lt-leb (a.column + a.width) b.column (omega (arith, h.right, k.left))) (lt-leb (b.column + b.width) a.column (omega (arith, k.right, h.left))))
-      (or_none _ _ (lt-leb (a.row + a.height) b.row (omega (arith, h.bottom, k.top))) (lt-leb (b.row + b.height) a.row (omega (arith, k.bottom, h.top))))
+  shared_fails y x h k = grind (arith, nat_tests)
 
   pub apart_disjoint : apart a b ≡ true → Disjoint a b
   apart_disjoint e y x h k = clash e (shared_fails y x (covers a y x h) (covers b y x k))
@@ -57,43 +41,26 @@ module _ (a b : Block) where
   pub disjoint_apart : (s : Settings) → Inside s a → Inside s b → Disjoint a b → apart a b ≡ true
   unfolding apart
   disjoint_apart s u v h =
-      bool_cases (apart a b) (λ e. e)
-      (λ e.
-      let sides = or_false (leb (a.column + a.width) b.column || leb (b.column + b.width) a.column) _ e in
-      let columns = or_false (leb (a.column + a.width) b.column) _ sides.0 in
-      let rows = or_false (leb (a.row + a.height) b.row) _ sides.1 in
-      let l = leb-false (a.column + a.width) b.column columns.0 in
-      let r = leb-false (b.column + b.width) a.column columns.1 in
-      let t = leb-false (a.row + a.height) b.row rows.0 in
-      let m = leb-false (b.row + b.height) a.row rows.1 in
-      let y : ℕ = max a.row b.row in
-      let x : ℕ = max a.column b.column in
-      absurd (h y x
-      (covers_yes a y x (record { top = omega arith; bottom = omega (arith, m, u.height); left = omega arith; right = omega (arith, r, u.width) }))
-      (covers_yes b y x (record { top = omega arith; bottom = omega (arith, t, v.height); left = omega arith; right = omega (arith, l, v.width) }))))
+      let both = h (max a.row b.row) (max a.column b.column) in grind (arith, nat_tests)
 
 -- two tests with other outcomes
 differ_true : (a b : Bool) → cond a (not b) b ≡ true → a ≡ b → ⊥
-differ_true true b e q = clash e (sym (rw (← q)))
-differ_true false b e q = clash e (sym q)
+differ_true a b e q = grind (arith, nat_tests)
 
 differ_yes : (a b : Bool) → (a ≡ b → ⊥) → cond a (not b) b ≡ true
-differ_yes true true h = absurd (h refl)
-differ_yes true false h = refl
-differ_yes false true h = refl
-differ_yes false false h = absurd (h refl)
+differ_yes a b h = grind (arith, nat_tests)
 
 module _ (k l : Edit) where
   pub test_separate : separate k l ≡ true → Separate k l
   unfolding separate Separate
   test_separate e =
       bool_cases (other_view k.view l.view) (λ t. inl (differ_true (is_right k.view) (is_right l.view) t))
-      (λ f. inr (apart_disjoint k.block l.block (or_else (other_view k.view l.view) (apart k.block l.block) f e)))
+      (λ f. inr (apart_disjoint k.block l.block (rw f at e)))
 
   pub separate_test : (s : Settings) → Inside s k.block → Inside s l.block → Separate k l → separate k l ≡ true
   unfolding separate Separate
-  separate_test s u v (inl h) = or_first (other_view k.view l.view) (apart k.block l.block) (differ_yes (is_right k.view) (is_right l.view) h)
-  separate_test s u v (inr h) = or_second (other_view k.view l.view) (apart k.block l.block) (disjoint_apart k.block l.block s u v h)
+  separate_test s u v (inl h) = rw (differ_yes (is_right k.view) (is_right l.view) h)
+  separate_test s u v (inr h) = rw (disjoint_apart k.block l.block s u v h, or-true)
 
 -- ---- two edits
 
@@ -108,18 +75,13 @@ unfolding in_block
 plane_commutes w a b c e plane apart =
     let n : length (written_plane w b e plane) ≡ length plane = length-written w b e plane in
     let m : length (written_plane w a c plane) ≡ length plane = length-written w a c plane in
-    let n' : length (written_plane w a c (written_plane w b e plane)) ≡ length plane = length-written w a c (written_plane w b e plane) ∙ n in
-    let m' : length (written_plane w b e (written_plane w a c plane)) ≡ length plane = length-written w b e (written_plane w a c plane) ∙ m in
-    ext_get_or 0 (written_plane w a c (written_plane w b e plane)) (written_plane w b e (written_plane w a c plane)) (n' ∙ sym m')
+    let n' = length-written w a c (written_plane w b e plane) in
+    let m' = length-written w b e (written_plane w a c plane) in
+    ext_get_or 0 (written_plane w a c (written_plane w b e plane)) (written_plane w b e (written_plane w a c plane)) (n' ∙ n ∙ sym (m' ∙ m))
     (λ i h.
     let l : i < length plane = omega arith in
-    written_entry w a c (written_plane w b e plane) i (rw n l)
-    ∙ bool_cases (in_block w a i)
-    (λ t.
-    bool_cases (in_block w b i) (λ u. absurd (apart (i / w) (i % w) t u))
-    (λ u. rw (t, u) (sym (written_entry w a c plane i l ∙ rw t))))
-    (λ f. rw f (written_entry w b e plane i l ∙ ap (λ (z : ℕ). cond (in_block w b i) (candidate_at w b e i) z) (sym (written_entry w a c plane i l ∙ rw f))))
-    ∙ sym (written_entry w b e (written_plane w a c plane) i (rw m l)))
+    rw (written_entry w a c (written_plane w b e plane) i (rw n l), written_entry w b e (written_plane w a c plane) i (rw m l), written_entry w a c plane i l, written_entry w b e plane i l)
+    (bool_cases (in_block w a i) (λ t. bool_cases (in_block w b i) (λ u. absurd (apart (i / w) (i % w) t u)) (λ u. rw (t, u))) (λ f. rw f)))
 
 -- In one view the blocks are disjoint.
 same_view_lem : (k l : Edit) → Separate k l → is_right k.view ≡ is_right l.view → Disjoint k.block l.block
@@ -136,10 +98,7 @@ module _ (s : Settings) (k l : Edit) (h : Separate k l) where
 
   pub written_commutes : (d : Depths) → written s k.view k.block k.depths (written s l.view l.block l.depths d) ≡ written s l.view l.block l.depths (written s k.view k.block k.depths d)
   unfolding written
-  written_commutes d =
-      bool_cases (is_right k.view)
-      (λ t. bool_cases (is_right l.view) (λ u. rw (t, u, one_plane d.right (t ∙ sym u))) (λ u. rw (t, u)))
-      (λ t. bool_cases (is_right l.view) (λ u. rw (t, u)) (λ u. rw (t, u, one_plane d.left (t ∙ sym u))))
+  written_commutes d = let right = one_plane d.right in let left = one_plane d.left in grind (arith, nat_tests)
 
 -- ---- the edits of a list
 

@@ -168,7 +168,7 @@ pub fn at_edge(limit: u32, next: u32, x: u32) -> bool
     requires { x < limit }
     ensures { result ≡ at_edge limit next x }
 {
-    if limit < next { limit - x <= 1 } else { false }
+    limit < next && limit - x <= 1
 }
 
 // What a near edge shows: sample and depth of its column, whose entry is e.

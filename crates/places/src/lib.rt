@@ -10,6 +10,7 @@ ghost use Rattle.planes.specs.Parts.{splice};
 ghost use Rattle.places.specs.Positions.{first_at};
 
 // What stands at column c, as the view reads the row; 0 past its end.
+#[tactic(auto, using(model::proofs::Views::get_or_seen))]
 pub fn at(right: bool, row: &[u8], c: usize) -> u8
     ensures { result ≡ get_or (seen right row.now) c 0 }
 {
@@ -30,22 +31,17 @@ pub fn put_limit(right: bool, row: &mut [i16], c: usize, v: i16)
     row[i] = v;
 }
 
-// The lesser of two numbers.
-pub fn least(a: u32, b: u32) -> u32
-    ensures { result ≡ min a b }
-{
-    if a < b { a } else { b }
-}
-
 // The place of column c at depth d, raised by 1,024.
+#[tactic(auto, using(model::proofs::Refusals::table_most))]
 pub fn place_at(table: &[u16; 256], c: usize, d: u8) -> u32
     requires { (table_ok table.now ≡ true) × (c ≤ 4096) }
     ensures { result ≡ quarter c - get_or table.now d 0 }
 {
-    4 * c as u32 + 1024 - table[d as usize] as u32
+    4 * c as u32 + 1024 - u32::from(table[usize::from(d)])
 }
 
 // The place of column c, raised by 1,024.
+#[tactic(auto, unfolding(model::specs::Row::place))]
 pub fn place_of(right: bool, table: &[u16; 256], depths: &[u8], c: usize) -> u32
     requires { (table_ok table.now ≡ true) × (c ≤ 4096) }
     ensures { result ≡ place table.now (seen right depths.now) c }
@@ -57,14 +53,11 @@ pub fn place_of(right: bool, table: &[u16; 256], depths: &[u8], c: usize) -> u32
 pub fn first_at(x: u32) -> usize
     ensures { result ≡ first_at x }
 {
-    if x < 1021 {
-        0
-    } else {
-        ((x - 1021) / 4) as usize
-    }
+    (x.saturating_sub(1021) / 4) as usize
 }
 
 // The first entry of the part that holds positions `start` to `end` of a row of w.
+#[tactic(auto, unfolding(model::specs::Span::first_column))]
 pub fn part_start(right: bool, w: usize, start: usize, end: usize) -> usize
     requires { (start ≤ end) × (end ≤ w) }
     ensures { (result ≡ first_column right w start (end - start)) × (result + (end - start) ≤ w) }
@@ -73,6 +66,7 @@ pub fn part_start(right: bool, w: usize, start: usize, end: usize) -> usize
 }
 
 // The depth at entry e of a row, with the candidate in the entries from `column` on.
+#[tactic(auto, using(planes::proofs::Splices::splice_under, planes::proofs::Splices::splice_inside, planes::proofs::Splices::splice_beyond))]
 pub fn tried_at(depths: &[u8], candidate: &[u8], column: usize, e: usize) -> u8
     requires { (e < length depths.now) × (column + length candidate.now ≤ length depths.now) }
     ensures { result ≡ get_or (splice depths.now column candidate.now) e 0 }
@@ -87,6 +81,7 @@ pub fn tried_at(depths: &[u8], candidate: &[u8], column: usize, e: usize) -> u8
 }
 
 // The least of `top` and the places of the n columns from `from` on, as the view reads the row.
+#[tactic(auto, using(crate::proofs::Lows::least_none, crate::proofs::Lows::least_back, crate::proofs::Lows::least_all))]
 pub fn least_place(
     right: bool,
     table: &[u16; 256],
@@ -98,28 +93,11 @@ pub fn least_place(
     requires { (table_ok table.now ≡ true) × (from + n ≤ 4096) }
     ensures { result ≡ leastOf (place table.now (seen right depths.now)) top from n }
 {
-    let mut i = n;
     let mut low = top;
-    while 0 < i {
-        i -= 1;
-        let here = place_of(right, table, depths, from + i);
-        low = least(here, low);
+    for i in (0..n).rev() {
+        low = place_of(right, table, depths, from + i).min(low);
     }
     low
-}
-
-// One quarter before x.
-pub fn quarter_before(x: u32) -> u32
-    ensures { result ≡ x - 1 }
-{
-    if x == 0 { 0 } else { x - 1 }
-}
-
-// The column before a, or column 0.
-pub fn column_before(a: usize) -> usize
-    ensures { result ≡ a - 1 }
-{
-    if a == 0 { 0 } else { a - 1 }
 }
 
 // The least place of column a − 1 and of the n columns from a on.
@@ -127,7 +105,6 @@ pub fn row_low(right: bool, table: &[u16; 256], depths: &[u8], a: usize, n: usiz
     requires { (table_ok table.now ≡ true) × (a + n ≤ 4096) }
     ensures { result ≡ leastOf (place table.now (seen right depths.now)) (place table.now (seen right depths.now) (a - 1)) a n }
 {
-    let near = column_before(a);
-    let top = place_of(right, table, depths, near);
+    let top = place_of(right, table, depths, a.saturating_sub(1));
     least_place(right, table, depths, a, n, top)
 }

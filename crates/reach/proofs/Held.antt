@@ -4,19 +4,19 @@
 --     length-held                so L
 --     get_held                   and an accepted GET of one depth is within the bound that is worked out so
 use Prim.Native.Nat.{ℕ, zero, suc, ◌+◌, ◌-◌, ◌*◌, ◌<◌, ◌≤◌, min}
-use mathlib.Core.Path.{◌≡◌, refl, sym, ap, subst, ◌∙◌}
-use mathlib.Core.Bool.{Bool, true, false, cond}
-use mathlib.Core.Logic.{⊎_elim}
+use mathlib.Core.Path.{◌≡◌, refl, sym, ap, ◌∙◌}
+use mathlib.Core.Bool.{Bool, true, false}
 use mathlib.Core.List.{List}
 use native.Mathlib.Omega.{arith}
 use lib.Dec.{eqb}
+use Rattle.std.proofs.lemmas.Bool.Decides.{nat_tests}
 use lib.ListN.{length, get_or}
 use lib.IntN.{ℤ, pos, ◌-ℤ◌, nat_abs}
-use borrow.Author.Tests.{le-leb, lt-leb, eqb-false}
+use borrow.Author.Tests.{eqb-false}
 use Rattle.model.specs.declared.Settings.{Settings}
 use Rattle.model.specs.declared.Block.{Block}
 use Rattle.model.specs.declared.Candidate.{Candidate}
-use Rattle.model.specs.declared.Trial.{Trial}
+use Rattle.model.specs.Replies.{TrialReply}
 use Rattle.model.specs.Lists.{row_of, entry_at}
 use Rattle.model.specs.Row.{Line, width, least, limit, quarter, signed, limit_at}
 use Rattle.model.specs.Views.{is_right, seen, entry_of}
@@ -25,9 +25,8 @@ use Rattle.model.specs.Fresh.{line_of, fresh_row, fresh}
 use Rattle.model.specs.Candidates.{filled}
 use Rattle.model.specs.Blocks.{written_plane, written}
 use Rattle.model.specs.Span.{least_edited, span_low, span_high, first_column, view_place}
-use Rattle.model.specs.Refusals.{number_of}
 use Rattle.model.specs.Promises.{Sound, GetPost}
-use Rattle.model.proofs.Choice.{bool_cases, lt_or_le}
+use Rattle.model.proofs.Choice.{bool_cases}
 use Rattle.model.proofs.Lists.{get_or_row, length_plane_row, rows_apart}
 use Rattle.model.proofs.Views.{seen_line, entry_within, entry_entry, get_or_seen, length_seen, get_or_view_limits}
 use Rattle.model.proofs.Signs.{signed_le, signed_place_lem, signed_quarter, signed_low}
@@ -37,21 +36,17 @@ use Rattle.model.proofs.Refusals.{Inside, Tables, early_facts}
 use Rattle.model.proofs.Promises.{get_early}
 use Rattle.model.proofs.Locality.{sized_written}
 use Rattle.run.proofs.Steps.{limit_fresh}
-use Rattle.reach.specs.Reach.{OneDepth, from_zero, low_of, high_of, length_of, most_change, span_length}
+use Rattle.reach.specs.Reach.{OneDepth, low_of, high_of, length_of, most_change, span_length}
 use Rattle.reach.specs.Held.{lesser, place_with, held_depth, held_limit, held_low, held_high, held_length}
 use Rattle.reach.proofs.Positions.{high_span}
 use Rattle.reach.proofs.Change.{get_within}
 
 -- raised numbers are ordered as what they stand for
 signed_min : (a b : ℕ) → signed (min a b) ≡ lesser (signed a) (signed b)
-signed_min a b =
-    ⊎_elim
-    (λ h. let e : min a b ≡ b = omega arith in ap signed e ∙ sym (ap (λ (t : Bool). cond t (signed a) (signed b)) (signed_le a b ∙ lt-leb a b h)))
-    (λ h. let e : min a b ≡ a = omega arith in ap signed e ∙ sym (ap (λ (t : Bool). cond t (signed a) (signed b)) (signed_le a b ∙ le-leb a b h)))
-    (lt_or_le b a)
+signed_min a b = let e = signed_le a b in grind (arith, nat_tests)
 
 lesser_same : {a b c d : ℤ} → a ≡ b → c ≡ d → lesser a c ≡ lesser b d
-lesser_same {b = b} {c = c} p q = ap (λ (z : ℤ). lesser z c) p ∙ ap (lesser b) q
+lesser_same p q = rw (p, q)
 
 -- the least of f c, f (c + 1), .., n of them, and `top` where it is less
 unfoldable pub least_z : (ℕ → ℤ) → ℤ → ℕ → ℕ → ℤ
@@ -69,11 +64,10 @@ signed_least f g top c (suc n) h =
 -- the least of three places
 least_three : (f g : ℕ → ℕ) (c : ℕ) → least_edited f g c c ≡ min (f c) (min (g c) (f (c - 1)))
 unfolding least_edited least
-least_three f g c = let e : c + 1 - c ≡ 1 = omega arith in rw e refl
+least_three f g c = let e : c + 1 - c ≡ 1 = omega arith in rw e
 
 table_most : (s : Settings) → Tables s → (right : Bool) (i : ℕ) → get_or (table_of s right) i 0 ≤ 1023
-table_most s t true i = t.right i
-table_most s t false i = t.left i
+table_most s t right i = grind (arith, t.left i, t.right i)
 
 module _ (s : Settings) (tables : Tables s) (right : Bool) (y : ℕ) (h : y < s.h) where
   -- the place of a column by the depth that is held for it
@@ -130,14 +124,14 @@ module _ (s : Settings) (tables : Tables s) (right : Bool) (y : ℕ) (h : y < s.
         ap (λ (v : View). entry_at v.limits s.w y i (pos 0)) (view_fresh s p d right)
         ∙ limit_fresh s p d sized right y i h i<
         ∙ get_or_view_limits right drawn i (rw n i<)
-        ∙ ap (limit_at (seen_line right drawn)) (ap (λ (m : ℕ). entry_of right m i) n ∙ entry_entry right s.w c k)
+        ∙ ap (limit_at (seen_line right drawn)) (rw n (entry_entry right s.w c k))
         ∙ ap (λ (m : ℕ). signed (limit (view_place s right d y) m c)) (length_seen right drawn.depths ∙ n)
 
     -- high: the limit that a sound session holds for the next column
     pub high_limit : (x : Held) → x ≡ fresh s p d → (c : ℕ) → c < s.w → high_of (view_place s right d y) s.w c ≡ held_high s right x y c
     unfolding high_of held_high span_high
     high_limit x sound c k =
-        bool_cases (eqb (c + 1) s.w) (λ t. rw t refl)
+        bool_cases (eqb (c + 1) s.w) (λ t. rw t)
         (λ t. let other = eqb-false (c + 1) s.w t in
         rw (t, sound) (sym (limit_held (c + 1) (omega arith))))
 
@@ -150,13 +144,12 @@ column_entry false w x = refl
 
 -- of a block's entries in row order the first is at its first row and column
 first_entry : (y x n : ℕ) → (y - y) * n + (x - x) ≡ 0
-first_entry y x n = let e : y - y ≡ 0 = omega arith in rw e (omega arith)
+first_entry y x n = grind arith
 
 -- limits are read as they stand
 high_read : (s : Settings) (right : Bool) (h : Held) (y c : ℕ) → held_high s right (read_held h) y c ≡ held_high s right h y c
 unfolding held_high read_held
-high_read s true h y c = refl
-high_read s false h y c = refl
+high_read s right h y c = grind arith
 
 module _ (s : Settings) (p : Pictures) (d : Depths) (h : Held) (v : ℕ) (b : Block) (c : List ℕ) (sized : DepthsSized s d) (tables : Tables s) (inside : Inside s b) (one : OneDepth b) (sound : Sound s p d (read_held h)) where
   abbrev right : Bool
@@ -168,32 +161,30 @@ module _ (s : Settings) (p : Pictures) (d : Depths) (h : Held) (v : ℕ) (b : Bl
   -- the candidate's depth stands in the block then
   there : held_depth s right (written s v b c d) b.row column ≡ get_or c 0 0
   there =
-      let x< : b.column < s.w = omega (arith, inside.right, one.width) in
+      let x< : b.column < s.w = omega arith in
       let plane : List ℕ = depths_of d right in
-      let row< : b.row * s.w + s.w ≤ length plane = omega (arith, depths_length s sized right, rows_apart s.w b.row s.h (omega (arith, inside.bottom, one.height))) in
-      ap (λ (i : ℕ). entry_at (depths_of (written s v b c d) right) s.w b.row i 0) (entry_entry right s.w b.column x<)
-      ∙ ap (λ (l : List ℕ). entry_at l s.w b.row b.column 0) (written_own s v b c d)
-      ∙ sym (get_or_row 0 (written_plane s.w b c plane) s.w b.row b.column x<)
-      ∙ written_inside s.w b c plane b.row row< inside.right b.column (omega arith) (omega (arith, one.height)) (omega arith) (omega (arith, one.width))
-      ∙ ap (λ (i : ℕ). get_or c i 0) (first_entry b.row b.column b.width)
+      let row< : b.row * s.w + s.w ≤ length plane = omega (arith, depths_length s sized right, rows_apart s.w b.row s.h (omega arith)) in
+      rw (entry_entry right s.w b.column x<, written_own s v b c d)
+      (sym (get_or_row 0 (written_plane s.w b c plane) s.w b.row b.column x<)
+      ∙ written_inside s.w b c plane b.row row< inside.right b.column (omega arith) (omega arith) (omega arith) (omega arith)
+      ∙ ap (λ (i : ℕ). get_or c i 0) (first_entry b.row b.column b.width))
 
   pub length-held : span_length s right b d (written s v b c d) ≡ held_length s right b d h (get_or c 0 0)
   unfolding span_length length_of held_length
   length-held =
-      let y< : b.row < s.h = omega (arith, inside.bottom, one.height) in
-      let x< : b.column < s.w = omega (arith, inside.right, one.width) in
+      let y< : b.row < s.h = omega arith in
+      let x< : b.column < s.w = omega arith in
       let c< : column < s.w = entry_within right s.w b.column x< in
-      ap (length_of (view_place s right d b.row) (view_place s right (written s v b c d) b.row) s.w) (column_entry right s.w b.column)
-      ∙ ap (λ (z : ℤ). z -ℤ from_zero (low_of (view_place s right d b.row) (view_place s right (written s v b c d) b.row) column))
-      (high_limit s tables right b.row y< p d sized (read_held h) sound.held column c< ∙ high_read s right h b.row column)
-      ∙ ap (λ (z : ℤ). held_high s right h b.row column -ℤ from_zero z)
-      (low_places s tables right b.row y< d (written s v b c d) sized (sized_written s v b c d sized) column (get_or c 0 0) c< there)
+      rw (
+        column_entry right s.w b.column,
+        high_limit s tables right b.row y< p d sized (read_held h) sound.held column c<,
+        high_read s right h b.row column,
+        low_places s tables right b.row y< d (written s v b c d) sized (sized_written s v b c d sized) column (get_or c 0 0) c< there,
+      )
 
 pub get_held :
-    (s : Settings) (p : Pictures) (d : Depths) (h : Held) (v : ℕ) (b : Block) (c : Candidate) (x : List ℕ) (r : Trial) → GetPost s p d h v b c x r → Sound s p d (read_held h) →
-    number_of r.refusal ≡ 0 → OneDepth b → nat_abs r.change ≤ most_change (held_length s (is_right v) b d h (get_or (filled b c x) 0 0))
+    (s : Settings) (p : Pictures) (d : Depths) (h : Held) (v : ℕ) (b : Block) (c : Candidate) (x : List ℕ) (r : TrialReply) → GetPost s p d h v b c x r → Sound s p d (read_held h) →
+    r.number ≡ 0 → OneDepth b → nat_abs r.change ≤ most_change (held_length s (is_right v) b d h (get_or (filled b c x) 0 0))
 get_held s p d h v b c x r post sound z one =
     let f = early_facts s p d h v b c (length x) (get_early s p d h v b c x post z) in
-    subst (λ (l : ℤ). nat_abs r.change ≤ most_change l)
-    (length-held s p d h v b (filled b c x) f.0.depths f.0.tables f.1.block one sound)
-    (get_within s p d h v b c x r post sound z one)
+    rw (length-held s p d h v b (filled b c x) f.0.depths f.0.tables f.1.block one sound) at (get_within s p d h v b c x r post sound z one)

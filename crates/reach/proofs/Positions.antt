@@ -8,18 +8,20 @@
 use Prim.Native.Nat.{ℕ, ◌+◌, ◌-◌, ◌*◌, ◌/◌, ◌<◌, ◌≤◌}
 use mathlib.Core.Path.{◌≡◌, refl, sym, ap, ◌∙◌}
 use mathlib.Core.Bool.{Bool, true, false}
-use mathlib.Core.Logic.{⊎_elim, ◌⊎◌, inl, inr}
+use mathlib.Core.Logic.{◌⊎◌}
 use native.Mathlib.Omega.{arith}
 use native.Mathlib.Nat.{mul-le-mul, le_refl, le_trans}
-use lib.Dec.{leb, ltb, eqb}
+use lib.Dec.{eqb}
 use lib.IntN.{sub_ℕ}
-use borrow.Author.Tests.{lt-leb, le-ltb, lt-ltb, le-leb, eqb-true}
+use Rattle.std.proofs.lemmas.Int.{ints}
+use Rattle.std.proofs.lemmas.Bool.Decides.{nat_tests}
+use borrow.Author.Tests.{eqb-true}
 use Rattle.model.specs.Lists.{sum_to}
-use Rattle.model.specs.Row.{limit, quarter, raised, signed}
+use Rattle.model.specs.Row.{limit, raised, signed}
 use Rattle.model.specs.Views.{entry_of}
 use Rattle.model.specs.Combined.{worst}
 use Rattle.model.specs.Span.{span_low, span_high, in_span}
-use Rattle.model.proofs.Choice.{bool_cases, lt_or_le, and_true, and_off}
+use Rattle.model.proofs.Choice.{bool_cases}
 use Rattle.model.proofs.Sums.{sum_within}
 use Rattle.model.proofs.Owners.{limit_end}
 use Rattle.model.proofs.Signs.{signed_quarter, signed_gap}
@@ -37,22 +39,11 @@ high_span f w c =
 -- low of 0 or more, raised
 from_zero_lem : (low : ℕ) → from_zero (signed low) ≡ signed (low - raised + raised)
 unfolding from_zero
-from_zero_lem low =
-    ⊎_elim
-    (λ h. let e : low - raised + raised ≡ raised = omega arith in rw (lt-ltb low raised h, e) refl)
-    (λ h. let e : low - raised + raised ≡ low = omega arith in rw (le-ltb low raised h, e, le-ltb low raised h) refl)
-    (lt_or_le low raised)
+from_zero_lem low = grind (arith, ints, nat_tests)
 
 most_gap : (a b : ℕ) → most_change (sub_ℕ a b) ≡ worst * ((a - b + 3) / 4)
 unfolding most_change
-most_gap a b =
-    ⊎_elim
-    (λ h. let e : (a - b + 3) / 4 ≡ 0 = omega arith in rw (lt-ltb a b h, e) refl)
-    (λ h. ⊎_elim
-    (λ k. rw (le-ltb a b h, lt-leb (a - b) 0 k) refl)
-    (λ k. let e : (a - b + 3) / 4 ≡ 0 = omega arith in rw (le-ltb a b h, le-leb (a - b) 0 k, e) refl)
-    (lt_or_le 0 (a - b)))
-    (lt_or_le a b)
+most_gap a b = grind (arith, ints, nat_tests)
 
 module _ (f g : ℕ → ℕ) (w c : ℕ) where
   abbrev low : ℕ
@@ -77,35 +68,27 @@ module _ (f g : ℕ → ℕ) (w c : ℕ) where
 
   pub outside : (p : ℕ) → (p < start) ⊎ (stop ≤ p) → in_span f g w c c p ≡ false
   unfolding in_span start stop
-  outside p (inl h) = rw (lt-leb low (quarter p) (omega arith)) refl
-  outside p (inr h) = and_off (leb low (quarter p)) (ltb (quarter p) high) (le-ltb (quarter p) high (omega arith))
+  outside p h = grind (arith, nat_tests)
 
   pub inside : (p : ℕ) → start ≤ p → p < stop → in_span f g w c c p ≡ true
   unfolding in_span start stop
-  inside p h k = and_true (leb low (quarter p)) (ltb (quarter p) high) (le-leb low (quarter p) (omega arith)) (lt-ltb (quarter p) high (omega arith))
+  inside p h k = grind (arith, nat_tests)
 
   pub most_positions : worst * (stop - start) ≤ most_change (length_of f g w c)
   unfolding start stop
   most_positions =
-      let h : stop - start ≤ (high - (low - raised + raised) + 3) / 4 = omega arith in
       rw most_length (omega arith)
 
   pub one_more : most_change (length_of f g w c) ≤ worst * (stop - start + 1)
   unfolding start stop
   one_more =
-      let h : (high - (low - raised + raised) + 3) / 4 ≤ stop - start + 1 = omega arith in
       rw most_length (omega arith)
 
 -- ---- sums
-
--- a stretch read backwards
-turned : (w i from to : ℕ) → i < w → (i < w - to) ⊎ (w - from ≤ i) → (w - 1 - i < from) ⊎ (to ≤ w - 1 - i)
-turned w i from to l (inl h) = inr (omega arith)
-turned w i from to l (inr h) = inl (omega arith)
 
 pub sum_stretch : (right : Bool) (f : ℕ → ℕ) (m from to w : ℕ) → ((i : ℕ) → i < w → f i ≤ m) → ((i : ℕ) → i < w → (entry_of right w i < from) ⊎ (to ≤ entry_of right w i) → f i ≡ 0) → sum_to f w ≤ m * (to - from)
 unfolding entry_of
 sum_stretch false f m from to w most none = sum_within f m from to w most none
 sum_stretch true f m from to w most none =
-    let k : (w - from) - (w - to) ≤ to - from = omega arith in
-    le_trans (sum_within f m (w - to) (w - from) w most (λ i l o. none i l (turned w i from to l o))) (mul-le-mul (le_refl m) k)
+    let h = sum_within f m (w - to) (w - from) w most (λ i l o. none i l (grind arith)) in
+    le_trans h (mul-le-mul (le_refl m) (omega arith))

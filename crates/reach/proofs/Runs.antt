@@ -10,12 +10,12 @@ use borrow.Author.Tests.{eq-eqb}
 use Rattle.model.specs.declared.Settings.{Settings}
 use Rattle.model.specs.declared.Block.{Block}
 use Rattle.model.specs.declared.Candidate.{Candidate}
-use Rattle.model.specs.declared.Opened.{Opened}
+use Rattle.model.specs.Replies.{OpenReply}
 use Rattle.model.specs.Planes.{Pictures, Depths, Held, State}
 use Rattle.model.specs.Candidates.{filled}
 use Rattle.model.specs.Blocks.{change_of}
 use Rattle.model.specs.Journals.{emptied}
-use Rattle.model.specs.Refusals.{number_of, own_then, saving_then}
+use Rattle.model.specs.Refusals.{own_then, saving_then}
 use Rattle.model.specs.Promises.{OpenPost}
 use Rattle.run.specs.Run.{Call, Event, Run, leaves, Plain, plain, plain_number, plain_next, plain_answer, plain_change, plain_reply, plain_event}
 use Rattle.run.specs.Run.Call.{get, set, move}
@@ -58,7 +58,7 @@ shared_call_within r ok (shared-move to reference) = tt
 
 -- ---- after an accepted OPEN
 
-module _ (s : Settings) (p : Pictures) (d : Depths) (h₀ h : Held) (j₀ j : List ℕ) (o : Opened) (post : OpenPost s p d h₀ h j₀ j o) (yes : number_of o.refusal ≡ 0) where
+module _ (s : Settings) (p : Pictures) (d : Depths) (h₀ h : Held) (j₀ j : List ℕ) (o : OpenReply) (post : OpenPost s p d h₀ h j₀ j o) (yes : o.number ≡ 0) where
   pub session_within : {cs : List Call} {es : List Event} {last : State} → Run p (leaves o.settings d h) cs es last → AllWithin (plain s p d) cs es
   unfolding AllWithin
   session_within run = session_all s p d h₀ h j₀ j o post yes run (λ r. r) (λ r k e. plain_next r k) CallWithin (λ r k. refl) call_within

@@ -1,28 +1,37 @@
 -- Some rows of a record's words, narrowed in a room.
---     part_within, part_size    their words lie within the record's
---     part_rows, part_depths    they are rows of the words, and depths
---     narrowed                  what stands in the room then
+--     part_within    their words lie within the record's
+--     part_depths    they are depths
+--     part_rows      they are rows of the words
 use Prim.Native.Nat.{ℕ, ◌+◌, ◌-◌, ◌*◌, ◌<◌, ◌≤◌}
 use mathlib.Core.Path.{◌≡◌, sym, ap, ◌∙◌}
 use mathlib.Core.Bool.{true}
-use mathlib.Core.List.{List, ◌++◌}
+use mathlib.Core.List.{List}
 use native.Mathlib.Omega.{arith}
 use native.Mathlib.Nat.{mul_comm, mul-le-mul_right, add-mul}
-use lib.ListN.{length, get_or, take, drop, get_or-eq_default}
-use lib.Seq.{length-take-le, get_or-take, get_or-drop, ext_get_or}
+use lib.ListN.{length, take, get_or, length-take, drop, get_or-eq_default}
+use lib.Seq.{get_or-take, get_or-drop, ext_get_or}
 use Rattle.model.specs.Lists.{row_of}
 use Rattle.model.specs.Refusals.{up_to}
 use Rattle.model.proofs.Choice.{lt_or_le}
 use Rattle.model.proofs.Lists.{length-row, get_or_row, rows_apart}
 use Rattle.model.proofs.Refusals.{up_to_most, up_to_yes}
 use Rattle.planes.proofs.Splices.{part_length}
-use Rattle.fill.proofs.Rooms.{front_back}
-use Rattle.records.specs.Rows.{part_of, Narrowed}
+use Rattle.records.specs.Rows.{part_of}
 use mathlib.Core.Logic.{⊎_elim}
 
 -- n rows of a block that is w wide, from row i on, lie within the words of its m rows
 pub part_within : (w i n m : ℕ) → i + n ≤ m → i * w + n * w ≤ w * m
 part_within w i n m h = omega (arith, mul-le-mul_right w h, mul_comm m w, add-mul i n w)
+
+-- some of the words are depths where all are
+pub part_depths : (words : List ℕ) (a b : ℕ) → up_to 255 words ≡ true → up_to 255 (take a (drop b words)) ≡ true
+part_depths words a b e =
+    up_to_yes 255 (take a (drop b words))
+    (λ k.
+    ⊎_elim
+    (λ h. rw (get_or-take a (drop b words) k 0 h, get_or-drop b words k 0) (up_to_most 255 words e (b + k)))
+    (λ h. rw (get_or-eq_default (take a (drop b words)) 0 {n = k} (omega (arith, length-take {A = ℕ}))) (omega arith))
+    (lt_or_le k a))
 
 module _ (words : List ℕ) (w i n m : ℕ) (size : length words ≡ w * m) (more : i + n ≤ m) where
   pub part_size : length (part_of words w i n) ≡ n * w
@@ -45,25 +54,3 @@ module _ (words : List ℕ) (w i n m : ℕ) (size : length words ≡ w * m) (mor
       let e : i * w + (k * w + x) ≡ (i + k) * w + x = omega arith in
       get_or_row 0 (part_of words w i n) w k x xw ∙ entry (k * w + x) (omega arith) ∙ ap (λ (y : ℕ). get_or words y 0) e
       ∙ sym (get_or_row 0 words w (i + k) x xw))
-
-  -- and depths
-  pub part_depths : up_to 255 words ≡ true → up_to 255 (part_of words w i n) ≡ true
-  part_depths e =
-      up_to_yes 255 (part_of words w i n)
-      (λ k.
-      ⊎_elim
-      (λ h. rw (entry k h) (up_to_most 255 words e (i * w + k)))
-      (λ h. rw (get_or-eq_default (part_of words w i n) 0 {n = k} (omega (arith, part_size))) (omega arith))
-      (lt_or_le k (n * w)))
-
-  -- what is lent from the room once they are narrowed there
-  module _ (room ys : List ℕ) (holds : n * w ≤ length room) (same : ys ≡ part_of words w i n) where
-    room_size : (length ys ≡ n * w) × ((length (ys ++ drop (n * w) room) ≡ length room) × (take (n * w) (ys ++ drop (n * w) room) ≡ ys))
-    room_size = front_back room ys (n * w) holds (ap length same ∙ part_size ∙ sym (length-take-le (n * w) room holds))
-
--- so many rows stand at the room's front
-pub narrowed : (words : List ℕ) (w done left n : ℕ) (room ys : List ℕ) → length words ≡ w * (done + left) → 0 < n → n ≤ left → n * w ≤ length room → ys ≡ part_of words w done n → (length (ys ++ drop (n * w) room) ≡ length room) × Narrowed words w done left (ys ++ drop (n * w) room) n
-narrowed words w done left n room ys size some few holds same =
-    let more : done + n ≤ done + left = omega arith in
-    let e = room_size words w done n (done + left) size more room ys holds same in
-    (e.1.0, record { some = some; few = few; holds = omega (arith, holds, e.1.0); rows = e.1.1 ∙ same })

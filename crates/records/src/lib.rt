@@ -2,22 +2,21 @@
 #![tactic(auto)]
 
 ghost use Rattle.std.specs.Prelude.{◌≡◌, true, ◌+◌, ◌*◌, ◌<◌, ◌≤◌, length};
-ghost use Rattle.model.specs.Journals.{newest, record_end};
+ghost use Rattle.model.specs.Journals.{newest, record_end, with_newest};
 ghost use Rattle.model.specs.Refusals.{up_to};
-ghost use Rattle.records.specs.Taken.{NewestRecord, Struck};
+ghost use Rattle.records.specs.Taken.{NewestRecord};
 ghost use Rattle.records.specs.Rows.{Narrowed};
 
-use model::{Block, Refusal};
+use model::Block;
 
 // Words as depths.
+#[tactic(auto, using(model::proofs::Refusals::up_to_most))]
 pub fn narrow(words: &[u32], depths: &mut [u8])
     requires { (length depths.old ≡ length words.now) × (up_to 255 words.now ≡ true) }
     ensures { depths.new ≡ words.now }
 {
-    let mut i = 0;
-    while i < words.len() {
-        depths[i] = words[i] as u8;
-        i += 1;
+    for (i, word) in words.iter().enumerate() {
+        depths[i] = *word as u8;
     }
 }
 
@@ -55,26 +54,26 @@ pub fn newest_record(journal: &[u32]) -> Record
     }
 }
 
-// Gives word 0 the index of the record before, unless the call is refused.
-pub fn strike(refusal: Refusal, before: u32, journal: &mut [u32])
+// Gives word 0 the index of the record before.
+#[tactic(auto, using(model::proofs::Journals::set_newest))]
+pub fn strike(before: u32, journal: &mut [u32])
     requires { 0 < length journal.old }
-    ensures { Struck refusal before journal.old journal.new }
+    ensures { journal.new ≡ with_newest before journal.old }
 {
-    if model::number(refusal) == 0 {
-        journal[0] = before;
-    }
+    journal[0] = before;
 }
 
 // The rows that are taken next: as many as the room holds, and no more than are left.
+#[tactic(auto, using(fill::proofs::Rooms::room_holds, fill::proofs::Rooms::room_some))]
 fn rows_next(room: usize, width: usize, left: usize) -> usize
     requires { (0 < width) × ((width ≤ room) × (0 < left)) }
     ensures { (0 < result) × ((result * width ≤ room) × (result ≤ left)) }
 {
-    let most = room / width;
-    if most < left { most } else { left }
+    left.min(room / width)
 }
 
 // Narrows the words of the next rows at the room's front, and answers how many rows; `done` rows are passed and `left` are left.
+#[tactic(auto, using(crate::proofs::Narrowing::part_within))]
 pub fn narrow_rows(words: &[u32], width: usize, done: usize, left: usize, room: &mut [u8]) -> usize
     requires width_nonzero { (0 < width) × ((0 < left) × ((done + left ≤ 4096) × (length words.now ≡ width * (done + left)))) }
     requires words_value { (up_to 255 words.now ≡ true) × ((width ≤ 4096) × (length room.old ≡ 4096)) }

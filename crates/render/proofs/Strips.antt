@@ -6,6 +6,7 @@ use mathlib.Core.List.{List, ◌++◌}
 use native.Mathlib.Omega.{arith}
 use lib.ListN.{length, take}
 use lib.Seq.{take_at}
+use Rattle.std.specs.Prelude.{Ok, Err}
 use Rattle.model.specs.declared.Settings.{Settings}
 use Rattle.model.specs.declared.Refusal.{Refusal}
 use Rattle.model.specs.Marks.{mark_bytes, pack_row}
@@ -15,6 +16,7 @@ use Rattle.model.specs.Views.{is_right, view_row}
 use Rattle.model.specs.Fresh.{strip_of}
 use Rattle.model.specs.Promises.{RenderPost}
 use Rattle.model.specs.Refusals.{number_of, table_ok}
+use Rattle.model.proofs.Refusals.{some_number}
 use Rattle.model.proofs.Packing.{Flags}
 use Rattle.model.proofs.Fresh.{flags_view}
 use Rattle.row.specs.Drawing.{Ready, Shows}
@@ -45,15 +47,15 @@ module _ (s : Settings) (v : ℕ) (texture depths : List ℕ) (x₀ : Strip) whe
   abbrev pub AcceptedAt : Type 0
   AcceptedAt = Accepted s.w s.left s.right s.tear v (length texture) (length depths) (length x₀.samples) (length x₀.marks) (length x₀.fronts)
 
-  pub accepted_at : (r : Refusal) {n : ℕ} → number_of r ≡ number_at → n ≡ number_of r → n ≡ 0 → AcceptedAt
-  accepted_at r e k z = accepted _ _ _ _ _ _ _ _ _ _ (sym e ∙ sym k ∙ z)
+  pub accepted_at : 0 ≡ number_at → AcceptedAt
+  accepted_at e = accepted _ _ _ _ _ _ _ _ _ _ (sym e)
 
-  pub refused : (r : Refusal) {n : ℕ} → number_of r ≡ number_at → n ≡ number_of r → (n ≡ 0 → ⊥) → RenderPost s v texture depths x₀ x₀ r
-  refused r e k h =
+  pub refused : (r : Refusal) → number_of r ≡ number_at → RenderPost s v texture depths x₀ x₀ (Err r)
+  refused r e =
       record {
         number = e ∙ strip_number_lem s v texture depths x₀;
         refused = λ u. refl;
-        drawn = λ z. absurd (h (k ∙ z));
+        drawn = λ z. absurd (some_number r z);
       }
 
   -- what the drawing asks of the planes
@@ -67,19 +69,14 @@ module _ (s : Settings) (v : ℕ) (texture depths : List ℕ) (x₀ : Strip) whe
           most = omega (arith, a.sized.depths_is, a.side.most);
         }
 
-    pub samples_fit : length x₀.samples ≡ length depths
-    samples_fit = a.sized.samples_is ∙ sym a.sized.depths_is
+    pub fit : (length x₀.samples ≡ length depths) × ((length x₀.marks ≡ mark_bytes (length depths)) × (length x₀.fronts ≡ length depths))
+    fit =
+        (a.sized.samples_is ∙ sym a.sized.depths_is, (a.sized.marks_is ∙ ap mark_bytes (sym a.sized.depths_is), a.sized.fronts_is ∙ sym a.sized.depths_is))
 
-    pub marks_fit : length x₀.marks ≡ mark_bytes (length depths)
-    marks_fit = a.sized.marks_is ∙ ap mark_bytes (sym a.sized.depths_is)
-
-    pub fronts_fit : length x₀.fronts ≡ length depths
-    fronts_fit = a.sized.fronts_is ∙ sym a.sized.depths_is
-
-    pub drawn : (right : Bool) (x : Strip) (r : Refusal) {n : ℕ} → number_of r ≡ number_at → n ≡ number_of r → n ≡ 0 → is_right v ≡ right → x ≡ strip_of (length depths) (view_row right (line s.tear (table_of s right) texture depths)) → RenderPost s v texture depths x₀ x r
-    drawn right x r e k z q d =
+    pub drawn : (right : Bool) (x : Strip) (u : Unit {0}) → 0 ≡ number_at → is_right v ≡ right → x ≡ strip_of (length depths) (view_row right (line s.tear (table_of s right) texture depths)) → RenderPost s v texture depths x₀ x (Ok u)
+    drawn right x u e q d =
         record {
           number = e ∙ strip_number_lem s v texture depths x₀;
-          refused = λ h. absurd (h (sym k ∙ z));
-          drawn = λ u. rw (q, ← a.sized.depths_is) d;
+          refused = λ h. absurd (h refl);
+          drawn = λ z. rw (q, ← a.sized.depths_is) d;
         }

@@ -83,18 +83,18 @@ pub fn render(
     samples: &mut [u16],
     marks: &mut [u8],
     fronts: &mut [u8],
-) -> Refusal
+) -> Result<(), Refusal>
     ensures { RenderPost settings view texture.now depths.now
         (strip samples.old marks.old fronts.old)
         (strip samples.new marks.new fronts.new) result }
 {
-    let left = settings.left;
-    let right = settings.right;
+    let left = &settings.left;
+    let right = &settings.right;
     let tear = settings.tear;
-    let refusal = lists::strip_refusal(
+    lists::strip_refusal(
         settings.w,
-        &left,
-        &right,
+        left,
+        right,
         tear,
         view,
         texture.len(),
@@ -102,14 +102,11 @@ pub fn render(
         samples.len(),
         marks.len(),
         fronts.len(),
-    );
-    if model::number(refusal) != 0 {
-        return refusal;
-    }
+    )?;
     if view == 1 {
-        draw_strip(tear, true, &right, texture, depths, samples, marks, fronts);
+        draw_strip(tear, true, right, texture, depths, samples, marks, fronts);
     } else {
-        draw_strip(tear, false, &left, texture, depths, samples, marks, fronts);
+        draw_strip(tear, false, left, texture, depths, samples, marks, fronts);
     }
-    refusal
+    Ok(())
 }

@@ -6,6 +6,7 @@ ghost use Rattle.std.specs.Prelude.{◌≡◌, true, ◌+◌, ◌*◌, ◌<◌, 
 ghost use Rattle.model.specs.Planes as planes;
 ghost use Rattle.model.specs.Refusals.{table_ok, up_to};
 ghost use Rattle.planes.specs.Parts.{block_of};
+ghost use Rattle.judge.specs.Judged.{verdict};
 ghost use Rattle.strips.specs.Strips.{around, own};
 ghost use Rattle.trial.specs.Trial.{Sized, Fits, BlockTrial};
 ghost use Rattle.commit.specs.Commit as commit;
@@ -15,8 +16,8 @@ ghost use Rattle.settled.specs.Settled.{OwnSettled, Settled};
 ghost use Rattle.restore.specs.Saved.{SavedIn};
 
 use judge::Decision;
-use model::{Block, Candidate, Tear};
-use strips::Sums;
+use model::{Block, Candidate, Refusal, Tear};
+use strips::{Counterpart, Source, Sums};
 
 // The two sums of the trial of a block with the depths that were saved.
 fn trial_saved(
@@ -48,34 +49,30 @@ fn trial_saved(
     ensures { BlockTrial w (around right share tolerance samples.now fronts.now marks.now combined.now reference.now)
         (own tear table.now texture.now depths.now limits.now) (block_of column row width height) words.now height result.old result.new }
 {
+    let v = Source {
+        tear,
+        table,
+        texture,
+        depths,
+        limits,
+    };
+    let o = Counterpart {
+        right,
+        share,
+        tolerance,
+        samples,
+        fronts,
+        marks,
+        combined,
+        reference,
+    };
     let mut old = 0u64;
     let mut new = 0u64;
     let mut done = 0;
     while done < height {
         let n = records::narrow_rows(words, width, done, height - done, room);
         let end = n * width;
-        let part = trial::trial_block(
-            tear,
-            right,
-            table,
-            share,
-            tolerance,
-            w,
-            h,
-            column,
-            row + done,
-            width,
-            n,
-            texture,
-            depths,
-            limits,
-            &room[..end],
-            samples,
-            fronts,
-            marks,
-            combined,
-            reference,
-        );
+        let part = trial::trial_block(v, o, w, h, column, row + done, width, n, &room[..end]);
         old += part.old;
         new += part.new;
         done += n;
@@ -176,7 +173,7 @@ fn restore(
     marks2: &[u8],
     combined: &mut [u16],
     reference: &[u16],
-) -> Decision
+) -> Result<Decision, Refusal>
     requires table_value { (table_ok table.now ≡ true) × (share ≤ 64) }
     requires sized { Sized w h (around right share tolerance samples2.now fronts2.now marks2.now combined.old reference.now) (own tear table.now texture.now depths.old limits.old) }
     requires sized_2 { commit.Sized w h texture.now depths.old (planes.view samples.old fronts.old limits.old marks.old) }
@@ -186,7 +183,7 @@ fn restore(
         depths.old depths.new
         (planes.view samples.old fronts.old limits.old marks.old)
         (planes.view samples.new fronts.new limits.new marks.new)
-        combined.old combined.new result }
+        combined.old combined.new (verdict total result) }
 {
     let columns = w as usize;
     let rows = h as usize;
@@ -194,7 +191,7 @@ fn restore(
     let row = block.row as usize;
     let width = block.width as usize;
     let height = block.height as usize;
-    let mut room = fill::long_room();
+    let mut room = planes::room::<u8, 4096>(0);
     let sums = trial_saved(
         tear,
         right,
@@ -219,11 +216,7 @@ fn restore(
         reference,
     );
     let most = judge::most_total(w, h);
-    let decision = judge::judge(total, sums.old, sums.new, most);
-    let refusal = decision.refusal;
-    if model::number(refusal) != 0 {
-        return decision;
-    }
+    let decision = judge::judge(total, sums.old, sums.new, most)?;
     set_saved(
         tear,
         right,
@@ -249,7 +242,7 @@ fn restore(
         marks2,
         combined,
     );
-    decision
+    Ok(decision)
 }
 
 // Restores what was saved in the view that its record names.
@@ -279,7 +272,7 @@ pub fn restore_view<'a>(
     view: u32,
     block: Block,
     words: &[u32],
-) -> Decision
+) -> Result<Decision, Refusal>
     requires { SavedIn (settings_of w h leftTable.now rightTable.now share tolerance tear total)
         (planes.pictures left.now right.now reference.now)
         (planes.depths leftDepths.old rightDepths.old)
@@ -291,7 +284,7 @@ pub fn restore_view<'a>(
         (planes.depths leftDepths.new rightDepths.new)
         (held_of leftSamples.old leftFronts.old leftLimits.old leftMarks.old rightSamples.old rightFronts.old rightLimits.old rightMarks.old combined.old)
         (held_of leftSamples.new leftFronts.new leftLimits.new leftMarks.new rightSamples.new rightFronts.new rightLimits.new rightMarks.new combined.new)
-        view block words.now 0 result }
+        view block words.now 0 (verdict total result) }
 {
     if view == 1 {
         return restore(

@@ -1,4 +1,5 @@
 -- The pair of a column, and that of the column to its left.
+--     with_width      a row with the candidate in it stays as wide
 --     place_is        the place of a column
 --     stands_of       a pair made from depths and the next place
 --     stands_left     the pair one column to the left
@@ -13,11 +14,19 @@ use lib.Dec.{leb, ltb}
 use lib.ListN.{length, get_or}
 use borrow.Author.Tests.{ltb-true}
 use Rattle.model.specs.Row.{quarter, place}
+use Rattle.model.specs.Views.{seen}
 use Rattle.model.proofs.Choice.{and_left}
+use Rattle.model.proofs.Views.{length_seen}
+use Rattle.planes.specs.Parts.{splice}
+use Rattle.planes.proofs.Splices.{length-splice}
 use Rattle.pixel.specs.declared.Edge.{Edge}
 use Rattle.pixel.specs.declared.Pair.{Pair}
 use Rattle.pixel.specs.Pairs.{next_place, Stands, Among, edge_past, at_edge}
 use Rattle.pixel.proofs.Pairs.{next_inner, past_cases}
+
+-- a row with the candidate x in the entries from `column` on is as wide as the row
+pub with_width : (r : Bool) (d x : List ℕ) (column : ℕ) → column + length x ≤ length d → length (seen r (splice d column x)) ≡ length d
+with_width r d x column fits = length_seen r (splice d column x) ∙ length-splice d column x fits
 
 -- the place of column c from its depth
 pub place_is : (t d : List ℕ) (c : ℕ) {d0 here : ℕ} → d0 ≡ get_or d c 0 → here ≡ quarter c - get_or t d0 0 → here ≡ place t d c

@@ -2,7 +2,7 @@
 --     ahead_less, ahead_within, ahead_edge, step_column, step_ahead      the pair from which the rest is drawn
 --     passed_none, passed_less, passed_join, passed_pixel, step_passed    the columns that were passed
 --     owner_passed                             the first column that is placed at most at a position owns it
-use Prim.Native.Nat.{ℕ, ◌+◌, ◌-◌, ◌*◌, ◌<◌, ◌≤◌}
+use Prim.Native.Nat.{ℕ, ◌+◌, ◌-◌, ◌<◌, ◌≤◌}
 use mathlib.Core.Path.{◌≡◌, sym, ap, subst, ◌∙◌}
 use mathlib.Core.Bool.{Bool}
 use mathlib.Core.Logic.{⊎_elim}
@@ -22,10 +22,6 @@ use Rattle.limits.specs.Limits.{limit_below}
 use Rattle.limits.proofs.Below.{below_end, below_step, below_below}
 use Rattle.row.proofs.Below.{front_end, front_step, front_below_lem}
 
--- the quarters of the last position below `stop`
-abbrev pub last_below : ℕ → ℕ
-last_below stop = 4 * stop + 1020
-
 -- ---- the pair from which the rest is drawn
 
 pub ahead_less : {right : Bool} {l : Line} {stop : ℕ} {q : Pair} (n : ℕ) → Ahead right l stop q → n ≤ stop → Ahead right l n q
@@ -40,9 +36,10 @@ ahead_within {right} {l} {stop} {q} h =
     positions : (x : ℕ) → stop ≤ first_at x → x ≤ quarter (width l) → stop ≤ width l
     positions x a b = omega arith
 
-module _ {right : Bool} {l : Line} {stop : ℕ} {q : Pair} (h : Ahead right l stop q) (some : 0 < stop) where
+-- position p is the next to be drawn
+module _ {right : Bool} {l : Line} (p : ℕ) {q : Pair} (h : Ahead right l (p + 1) q) where
   -- column 0 is placed at most at every position
-  pub step_column : last_below stop < q.here → 0 < q.column
+  pub step_column : quarter p < q.here → 0 < q.column
   step_column k =
       ⊎_elim (λ u. u)
       (λ u.
@@ -51,23 +48,23 @@ module _ {right : Bool} {l : Line} {stop : ℕ} {q : Pair} (h : Ahead right l st
       absurd (omega (arith, e, place_zero l.table l.depths 0)))
       (lt_or_le 0 q.column)
 
-  pub step_ahead : {r : Pair} → last_below stop < q.here → r.next ≡ q.here → edge_right r ≡ edge_past q → Among right (width l) r → Stands l.table l.depths r → Ahead right l stop r
+  pub step_ahead : {r : Pair} → quarter p < q.here → r.next ≡ q.here → edge_right r ≡ edge_past q → Among right (width l) r → Stands l.table l.depths r → Ahead right l (p + 1) r
   step_ahead {r} k e ee a s =
       record {
         among = a;
         stands = s;
         under = subst (λ (g : Edge). g.limit ≤ r.next) (sym ee) (subst (λ (x : ℕ). (edge_past q).limit ≤ x) (sym e) (past_cases q (λ (g : Edge). g.limit ≤ q.here) (λ u. omega arith) (λ u. u)));
-        before = subst (λ (g : Edge). stop ≤ first_at g.limit) (sym ee) (past_cases q (λ (g : Edge). stop ≤ first_at g.limit) (λ u. later q.here k) (λ u. h.before));
+        before = subst (λ (g : Edge). p + 1 ≤ first_at g.limit) (sym ee) (past_cases q (λ (g : Edge). p + 1 ≤ first_at g.limit) (λ u. later q.here k) (λ u. h.before));
       }
     where
-      later : (x : ℕ) → last_below stop < x → stop ≤ first_at x
+      later : (x : ℕ) → quarter p < x → p + 1 ≤ first_at x
       later x u = omega arith
 
   -- the position lies before the pair's edge
-  pub ahead_edge : last_below stop < (edge_right q).limit
+  pub ahead_edge : quarter p < (edge_right q).limit
   ahead_edge = sooner (edge_right q).limit h.before
     where
-      sooner : (x : ℕ) → stop ≤ first_at x → last_below stop < x
+      sooner : (x : ℕ) → p + 1 ≤ first_at x → quarter p < x
       sooner x u = omega arith
 
 -- ---- the columns that were passed
@@ -121,7 +118,7 @@ passed_pixel {l} {q₀} {q} p h k =
     let m : c ≤ q.column = omega (arith, o.column) in
     rw (same, limit_again h c m, front_again h c m)
 
-module _ {right : Bool} {l : Line} {stop : ℕ} {q₀ q : Pair} (h : Passed l q₀ q stop) (a : Ahead right l stop q) (some : 0 < stop) where
+module _ {right : Bool} {l : Line} (p : ℕ) {q₀ q : Pair} (h : Passed l q₀ q (p + 1)) (a : Ahead right l (p + 1) q) where
   -- the edge right of the column before
   past_limit : (edge_past q).limit ≡ limit_below (place_in l) (edge_right q₀).limit (q₀.column + 1) q.column
   past_limit =
@@ -134,15 +131,15 @@ module _ {right : Bool} {l : Line} {stop : ℕ} {q₀ q : Pair} (h : Passed l q�
       (λ u. sym (step ∙ rw (lt-ltb q.here q.limit u)))
       (λ u. h.front ∙ sym (step ∙ rw (le-ltb q.here q.limit u)))
 
-  pub step_passed : {r : Pair} → last_below stop < q.here → r.column ≡ q.column - 1 → edge_right r ≡ edge_past q → Passed l q₀ r stop
+  pub step_passed : {r : Pair} → quarter p < q.here → r.column ≡ q.column - 1 → edge_right r ≡ edge_past q → Passed l q₀ r (p + 1)
   step_passed {r} k e ee =
-      let z : r.column + 1 ≡ q.column = omega (arith, step_column a some k) in
+      let z : r.column + 1 ≡ q.column = omega (arith, step_column p a k) in
       record {
         column = omega (arith, h.column);
-        past = λ j p u v w.
-            ⊎_elim (λ m. h.past j p m v w)
+        past = λ j i u v w.
+            ⊎_elim (λ m. h.past j i m v w)
             (λ m.
-            let z : q.column ≡ j = omega (arith, step_column a some k) in
+            let z : q.column ≡ j = omega (arith, step_column p a k) in
             let x : q.here ≡ place_in l j = a.stands.here ∙ ap (place_in l) z in
             omega arith)
             (lt_or_le q.column j);
@@ -150,15 +147,14 @@ module _ {right : Bool} {l : Line} {stop : ℕ} {q₀ q : Pair} (h : Passed l q�
         front = ap (λ (e : Edge). e.column) ee ∙ rw z past_front;
       }
 
-  -- the first column that is placed at most at a position owns it, and the pair shows what it shows there
-  pub owner_passed : length l.texture ≡ width l → q.here ≤ last_below stop → shown_of l.tear l.texture l.depths q (last_below stop) ≡ pixel_below l (q₀.column + 1) (edge_right q₀) (stop - 1)
+  -- the first column that is placed at most at the position owns it, and the pair shows what it shows there
+  pub owner_passed : length l.texture ≡ width l → q.here ≤ quarter p → shown_of l.tear l.texture l.depths q (quarter p) ≡ pixel_below l (q₀.column + 1) (edge_right q₀) p
   unfolding pixel_below shown_of edged_pixel
   owner_passed wide k =
-      let x : quarter (stop - 1) ≡ last_below stop = omega arith in
-      let o : Owns (place_in l) (q₀.column + 1) (last_below stop) q.column = record {
+      let o : Owns (place_in l) (q₀.column + 1) (quarter p) q.column = record {
         column = omega (arith, h.column);
         here = rw a.stands.here at k;
-        after = λ j u v. rw x at (h.past j (stop - 1) u (omega arith) (omega arith));
+        after = λ j u v. h.past j p u (omega arith) (omega arith);
       } in
-      let same : owner (place_in l) (last_below stop) (q₀.column + 1) ≡ q.column = owner_is (place_in l) (last_below stop) (q₀.column + 1) q.column (omega (arith, place_zero l.table l.depths 0)) o in
-      rw (pair_pixel_lem l q (last_below stop) wide a.stands, a.stands.next, x, same, ← h.limit, ← h.front)
+      let same : owner (place_in l) (quarter p) (q₀.column + 1) ≡ q.column = owner_is (place_in l) (quarter p) (q₀.column + 1) q.column (omega (arith, place_zero l.table l.depths 0)) o in
+      rw (pair_pixel_lem l q (quarter p) wide a.stands, a.stands.next, same, ← h.limit, ← h.front)

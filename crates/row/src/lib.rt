@@ -14,7 +14,7 @@ ghost use Rattle.limits.specs.Limits.{Edged};
 use model::{Pixel, Tear};
 use pixel::{Edge, Pair};
 
-// Stores what position i of a part shows, as the view reads it.
+// Stores what position i of a part shows, as the view reads it. The parts are three lists, since the C interface lends the planes so.
 fn put_pixel(
     right: bool,
     samples: &mut [u16],
@@ -98,7 +98,7 @@ fn step(
         d1: q.d0,
         here: places::place_at(table, c, d0),
         next: q.here,
-        limit: places::least(q.here, q.limit),
+        limit: q.here.min(q.limit),
         front: pixel::front_past(q),
     }
 }
@@ -153,22 +153,19 @@ fn draw_positions(
         samples.old fronts.old flags.old samples.new fronts.new flags.new }
 {
     let mut q = from;
-    let mut i = samples.len();
-    while 0 < i {
-        let x = 4 * (start + i) as u32 + 1020;
-        if x < q.here {
+    for i in (0..samples.len()).rev() {
+        let x = 4 * (start + i) as u32 + 1024;
+        while x < q.here {
             q = step(right, table, depths, candidate, column, q);
-        } else {
-            i -= 1;
-            let shown = shown_at(tear, right, texture, depths, candidate, column, q, x);
-            put_pixel(right, samples, fronts, flags, i, shown);
         }
+        let shown = shown_at(tear, right, texture, depths, candidate, column, q, x);
+        put_pixel(right, samples, fronts, flags, i, shown);
     }
     q
 }
 
-// The same for each view: the compiler makes a loop for each where the view is known.
-fn draw_left(
+// The same with the view as a constant: the compiler makes a loop for each.
+fn draw_side<const RIGHT: bool>(
     tear: Tear,
     table: &[u16; 256],
     texture: &[u16],
@@ -181,38 +178,14 @@ fn draw_left(
     fronts: &mut [u8],
     flags: &mut [u8],
 ) -> Pair
-    requires ready { (Ready (line_with tear false table.now texture.now depths.now column candidate.now)) × (column + length candidate.now ≤ length depths.now) }
-    requires ahead { Ahead false (line_with tear false table.now texture.now depths.now column candidate.now) (start + length samples.old) from }
+    requires ready { (Ready (line_with tear RIGHT table.now texture.now depths.now column candidate.now)) × (column + length candidate.now ≤ length depths.now) }
+    requires ahead { Ahead RIGHT (line_with tear RIGHT table.now texture.now depths.now column candidate.now) (start + length samples.old) from }
     requires fronts_len { (length fronts.old ≡ length samples.old) × (length flags.old ≡ length samples.old) }
-    ensures { SpanDrawn false (line_with tear false table.now texture.now depths.now column candidate.now) start from result
+    ensures { SpanDrawn RIGHT (line_with tear RIGHT table.now texture.now depths.now column candidate.now) start from result
         samples.old fronts.old flags.old samples.new fronts.new flags.new }
 {
     draw_positions(
-        tear, false, table, texture, depths, candidate, column, from, start, samples, fronts, flags,
-    )
-}
-
-fn draw_right(
-    tear: Tear,
-    table: &[u16; 256],
-    texture: &[u16],
-    depths: &[u8],
-    candidate: &[u8],
-    column: usize,
-    from: Pair,
-    start: usize,
-    samples: &mut [u16],
-    fronts: &mut [u8],
-    flags: &mut [u8],
-) -> Pair
-    requires ready { (Ready (line_with tear true table.now texture.now depths.now column candidate.now)) × (column + length candidate.now ≤ length depths.now) }
-    requires ahead { Ahead true (line_with tear true table.now texture.now depths.now column candidate.now) (start + length samples.old) from }
-    requires fronts_len { (length fronts.old ≡ length samples.old) × (length flags.old ≡ length samples.old) }
-    ensures { SpanDrawn true (line_with tear true table.now texture.now depths.now column candidate.now) start from result
-        samples.old fronts.old flags.old samples.new fronts.new flags.new }
-{
-    draw_positions(
-        tear, true, table, texture, depths, candidate, column, from, start, samples, fronts, flags,
+        tear, RIGHT, table, texture, depths, candidate, column, from, start, samples, fronts, flags,
     )
 }
 
@@ -239,11 +212,11 @@ pub fn draw_span(
         samples.old fronts.old flags.old samples.new fronts.new flags.new }
 {
     if right {
-        draw_right(
+        draw_side::<true>(
             tear, table, texture, depths, candidate, column, from, start, samples, fronts, flags,
         )
     } else {
-        draw_left(
+        draw_side::<false>(
             tear, table, texture, depths, candidate, column, from, start, samples, fronts, flags,
         )
     }

@@ -1,15 +1,17 @@
 -- From what a reader gave and a writer took to what is promised of a run.
+--     part_written      what was written before an error
 --     answered          each text has an answer
 --     answers_longer    a text of 4,096 bytes is no row, however it goes on
 --     printed_all       what was read and its answer, where all of that was written
 --     printed_part      and where a beginning of it was
 --     printed_none      or nothing, since the reader failed
-use Rattle.std.proofs.Common.{◌≡◌, ℕ, ◌<◌, ◌≤◌, List, [], ◌++◌, length, None, Some, refl, sym, ap, ◌∙◌, subst, append-nil, arith, length-append}
+use Rattle.std.proofs.Common.{◌≡◌, ℕ, ◌<◌, ◌≤◌, List, [], ◌++◌, length, take, None, Some, refl, sym, ap, ◌∙◌, subst, append-nil, arith, length-append}
 use Rattle.model.proofs.Choice.{lt_or_le}
 use mathlib.Core.Logic.{⊎_elim}
 use Rattle.std.specs.Prelude.{Option}
 use Rattle.std.specs.Io.KnownBytes.{Consumes, Appends, IsAtEnd}
 use Rattle.std.proofs.KnownBytes.{Appends-nil}
+use Rattle.std.proofs.lemmas.List.{take_at}
 use Rattle.rowtext.specs.Format.{RowText}
 use Rattle.rowtext.specs.Reader.{Step, got, nothing, read_row}
 use Rattle.rowtext.proofs.Numbers.{got≢nothing}
@@ -17,6 +19,11 @@ use Rattle.rowtext.proofs.Rows.{row_printed, row_read, text_unique}
 use Rattle.rowtext.proofs.Lengths.{text_length}
 use Rattle.rowlines.specs.Printed.{printed, bad_input, Answers}
 use Rattle.rowprint.specs.Run.{IsInput, AppendsPart, Prints, PrintsPart}
+
+-- a beginning of the bytes was written
+pub part_written : (old new : Option (List ℕ)) (xs done rest : List ℕ) → xs ≡ done ++ rest → Appends old new done → AppendsPart old new xs
+part_written old new xs done rest e a =
+    record { count = length done; appended = subst (Appends old new) (sym (ap (take (length done)) e ∙ take_at done rest (length done) refl)) a }
 
 answered_by : (text : List ℕ) (s : Step RowText) → read_row text ≡ s → (out : List ℕ) × Answers text out
 answered_by text (got r m) e =

@@ -2,14 +2,15 @@
 --     accepted         RENDER refuses no row whose planes have their lengths
 --     render_shows     what it drew is read back, entry by entry
 --     same_lines       and printed
-use Prim.Native.Nat.{ℕ, zero, suc, ◌+◌, ◌/◌, ◌%◌, ◌^◌, ◌<◌, ◌≤◌}
-use mathlib.Core.Path.{◌≡◌, refl, ap, ◌∙◌}
+use Prim.Native.Nat.{ℕ, ◌+◌, ◌/◌, ◌%◌, ◌^◌, ◌<◌, ◌≤◌}
+use mathlib.Core.Path.{◌≡◌, ap, ◌∙◌}
 use mathlib.Core.Bool.{true, false}
 use mathlib.Core.List.{List, ◌++◌}
 use native.Mathlib.Omega.{arith}
 use lib.ListN.{length, get_or, take, drop, length-append, length-drop, get_or-append}
 use lib.Seq.{length-take-le}
 use borrow.Author.Tests.{eq-eqb}
+use Rattle.std.specs.Prelude.{Result}
 use Rattle.model.specs.declared.Settings.{Settings}
 use Rattle.model.specs.declared.Refusal.{Refusal}
 use Rattle.model.specs.Lists.{rows}
@@ -20,6 +21,7 @@ use Rattle.model.specs.Planes.{Strip, strip}
 use Rattle.model.specs.Fresh.{strip_of}
 use Rattle.model.specs.Refusals.{strip_sized, tables_ok, render_number}
 use Rattle.model.specs.Promises.{RenderPost}
+use Rattle.model.proofs.Lists.{rows_same}
 use Rattle.model.proofs.Packing.{mark_pack_row, length-pack_row}
 use Rattle.model.proofs.Views.{length-view_samples, length-view_fronts}
 use Rattle.model.proofs.Fresh.{flags_view}
@@ -56,7 +58,7 @@ accepted w s texture depths x h k p l =
     rw
     (printer_tables w s p, p.tear_is, tear_yes printer_tear (record { least = omega arith; most = omega arith; near = omega arith }), p.width_is, side_yes w (record { some = h; most = omega arith }), sized w texture depths x l)
 
-drawn : (w : ℕ) (s : Settings) (texture depths : List ℕ) (x₀ x : Strip) (r : Refusal) → 1 ≤ w → w ≤ 64 → PrinterSettings w s → Lent w texture depths x₀ → RenderPost s 0 texture depths x₀ x r → x ≡ strip_of w (view_row false (line printer_tear printer_table texture depths))
+drawn : (w : ℕ) (s : Settings) (texture depths : List ℕ) (x₀ x : Strip) (r : Result (Unit {0}) Refusal) → 1 ≤ w → w ≤ 64 → PrinterSettings w s → Lent w texture depths x₀ → RenderPost s 0 texture depths x₀ x r → x ≡ strip_of w (view_row false (line printer_tear printer_table texture depths))
 drawn w s texture depths x₀ x r h k p l post =
     rw (p.width_is, p.left_is, p.tear_is) at (post.drawn (post.number ∙ accepted w s texture depths x₀ h k p l))
 
@@ -111,17 +113,11 @@ module _ (w : ℕ) (some : 1 ≤ w) (most : w ≤ 64) (bs bm bf : List ℕ) (es 
         fronts_is = length-take-le w bf (omega arith);
       }
 
-  pub render_shows : (s : Settings) (texture depths : List ℕ) (x : Strip) (r : Refusal) → length texture ≡ w → length depths ≡ w → PrinterSettings w s → RenderPost s 0 texture depths (strip (take w bs) (take (mark_bytes w) bm) (take w bf)) x r → Shows (view_row false (line printer_tear printer_table texture depths)) w (x.samples ++ drop w bs) (x.marks ++ drop (mark_bytes w) bm) (x.fronts ++ drop w bf)
+  pub render_shows : (s : Settings) (texture depths : List ℕ) (x : Strip) (r : Result (Unit {0}) Refusal) → length texture ≡ w → length depths ≡ w → PrinterSettings w s → RenderPost s 0 texture depths (strip (take w bs) (take (mark_bytes w) bm) (take w bf)) x r → Shows (view_row false (line printer_tear printer_table texture depths)) w (x.samples ++ drop w bs) (x.marks ++ drop (mark_bytes w) bm) (x.fronts ++ drop w bf)
   render_shows s texture depths x r et ed p post =
       let e = drawn w s texture depths (strip (take w bs) (take (mark_bytes w) bm) (take w bf)) x r some most p (lent texture depths et ed) post in
       shows w (line printer_tear printer_table texture depths) ed x e (drop w bs) (drop (mark_bytes w) bm) (drop w bf)
       (omega (arith, length-drop w bs)) (omega (arith, length-drop (mark_bytes w) bm)) (omega (arith, length-drop w bf))
-
--- equal lines, one after the other
-rows_same : (f g : ℕ → List ℕ) (n : ℕ) → ((p : ℕ) → p < n → f p ≡ g p) → rows f n ≡ rows g n
-unfolding rows
-rows_same f g zero h = refl
-rows_same f g (suc n) h = rw (rows_same f g n (λ p k. h p (omega arith)), h n (omega arith))
 
 line_same : (x : Row) (w : ℕ) (samples marks fronts : List ℕ) → Shows x w samples marks fronts → (p : ℕ) → p < w → shown_line samples marks fronts p ≡ position_line x p
 unfolding shown_line position_line

@@ -1,21 +1,15 @@
 -- The table whose entry d is d.
-use Prim.Native.Nat.{ℕ, ◌+◌, ◌<◌, ◌≤◌}
+use Prim.Native.Nat.{ℕ, ◌<◌, ◌≤◌}
 use mathlib.Core.Path.{◌≡◌, sym, ◌∙◌}
 use mathlib.Core.Logic.{⊎_elim}
 use mathlib.Core.List.{List}
 use native.Mathlib.Omega.{arith}
-use lib.ListN.{length, get_or, set, get_or-eq_default}
-use lib.Seq.{get_or-set_same, get_or-set_other, ext_get_or}
+use lib.ListN.{length, get_or, get_or-eq_default}
+use lib.Seq.{ext_get_or}
 use Rattle.model.specs.Lists.{list_of}
 use Rattle.model.proofs.Choice.{lt_or_le}
 use Rattle.model.proofs.Lists.{length-list_of, get_or-list_of}
 use Rattle.rowlines.specs.Printed.{printer_table}
-
-pub table_next : (l : List ℕ) (d : ℕ) → d < length l → ((i : ℕ) → i < d → get_or l i 0 ≡ i) → (i : ℕ) → i < d + 1 → get_or (set l d d) i 0 ≡ i
-table_next l d h z i k =
-    ⊎_elim (λ (j : i < d). get_or-set_other l d i d 0 (λ e. omega arith) ∙ z i j)
-    (λ (j : d ≤ i). let e : i ≡ d = omega arith in rw e (get_or-set_same l d d 0 h))
-    (lt_or_le i d)
 
 pub table_all : (l : List ℕ) → length l ≡ 256 → ((i : ℕ) → i < 256 → get_or l i 0 ≡ i) → l ≡ printer_table
 unfolding printer_table

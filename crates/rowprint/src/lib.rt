@@ -11,9 +11,8 @@ ghost use Rattle.rowlines.specs.Steps.{Put, PrinterSettings, Shows};
 ghost use Rattle.rowprint.specs.Run.{AppendsPart, Prints, PrintsPart};
 
 use model::{Settings, Tear};
-use rowtext::Parsed;
-use std::io;
 use std::io::{Read, Write};
+use std::{array, io};
 
 // What the left view shows of a row: samples, packed marks and front depths.
 #[derive(Drop)]
@@ -27,13 +26,7 @@ struct Drawn {
 fn table() -> [u16; 256]
     ensures { result ≡ printer_table }
 {
-    let mut entries = [0u16; 256];
-    let mut d: u16 = 0;
-    while d < 256 {
-        entries[d as usize] = d;
-        d += 1;
-    }
-    entries
+    array::from_fn(|d| d as u16)
 }
 
 // The settings of a row of w.
@@ -57,29 +50,17 @@ fn settings(w: usize) -> Settings
     }
 }
 
-// Room for the samples of a row, and for its marks or front depths.
-fn blank_samples() -> [u16; 64]
-    ensures { 64 ≡ length result }
-{
-    [0; 64]
-}
-
-fn blank() -> [u8; 64]
-    ensures { 64 ≡ length result }
-{
-    [0; 64]
-}
-
 // The left view of a row.
 fn draw(w: usize, texture: &[u16], depths: &[u8]) -> Drawn
     requires { (1 ≤ w) × (w ≤ 64) × (length texture.now ≡ w) × (length depths.now ≡ w) }
     ensures { Shows (view_row false (line printer_tear printer_table texture.now depths.now)) w result.samples result.marks result.fronts }
 {
-    let mut samples = blank_samples();
-    let mut marks = blank();
-    let mut fronts = blank();
+    let mut samples: [u16; 64] = planes::room(0);
+    let mut marks: [u8; 64] = planes::room(0);
+    let mut fronts: [u8; 64] = planes::room(0);
     let bytes = (w + 7) / 8;
-    render::render(
+    // No refusal applies to these settings and lengths.
+    let _ = render::render(
         settings(w),
         0,
         texture,
@@ -89,22 +70,24 @@ fn draw(w: usize, texture: &[u16], depths: &[u8]) -> Drawn
         &mut fronts[..w],
     );
     Drawn {
-        samples: samples,
-        marks: marks,
-        fronts: fronts,
+        samples,
+        marks,
+        fronts,
     }
 }
 
 // Writes what is printed of a row.
+#[tactic(auto, using(crate::proofs::Answers::printed_drawing))]
 fn put_drawing(out: &mut [u8], w: usize, texture: &[u16], depths: &[u8]) -> usize
     requires le_w { (1 ≤ w) × (w ≤ 64) × (length texture.now ≡ w) × (length depths.now ≡ w) }
     requires in_bounds { 2048 ≤ length out.old }
     ensures { Put 2048 out.old 0 (printed (row_text w texture.now depths.now)) out.new result }
 {
-    let drawn = draw(w, texture, depths);
-    let samples = drawn.samples;
-    let marks = drawn.marks;
-    let fronts = drawn.fronts;
+    let Drawn {
+        samples,
+        marks,
+        fronts,
+    } = draw(w, texture, depths);
     rowlines::put_row(out, w, &samples, &marks, &fronts)
 }
 
@@ -113,17 +96,14 @@ pub fn answer(text: &[u8], out: &mut [u8; 4096]) -> usize
     ensures prefix_len { (result ≤ length out.new) × (result ≡ length (take result out.new)) }
     ensures answers { Answers text.now (take result out.new) }
 {
-    let reading = rowtext::read_row(text);
-    let parsed = reading.parsed;
-    let Parsed::Row(w) = parsed else {
-        return rowlines::put_text(out, b"bad input\n");
-    };
-    let texture = reading.samples;
-    let depths = reading.depths;
-    put_drawing(out, w, &texture[..w], &depths[..w])
+    match rowtext::read_row(text) {
+        Some(row) => put_drawing(out, row.w, &row.samples[..row.w], &row.depths[..row.w]),
+        None => rowlines::put_text(out, b"bad input\n"),
+    }
 }
 
-// Reads until the buffer is full or the input ends, and answers how many bytes were read.
+// Reads until the buffer is full or the input ends, and answers how many bytes were read. At an early end `read_exact` fails and says not what
+// it read, and `read_to_end` wants a heap.
 fn read_full<R: Read>(reader: &mut R, buffer: &mut [u8]) -> io::Result<usize>
     ensures within { IfOk result (λ n. n ≤ length buffer.new) }
     ensures taken { IfOk result (λ n. Consumes (R.remaining reader.old) (R.remaining reader.new) (take n buffer.new)) }
@@ -140,24 +120,25 @@ fn read_full<R: Read>(reader: &mut R, buffer: &mut [u8]) -> io::Result<usize>
     Ok(done)
 }
 
-// Writes all of the bytes, or a beginning of them before the error.
+// Writes all of the bytes, or a beginning of them before the error, of which `write_all` says nothing.
 fn write_full<W: Write>(writer: &mut W, bytes: &[u8]) -> io::Result<()>
     ensures ok { OnOk result (Appends (W.contents writer.old) (W.contents writer.new) bytes.now) }
     ensures err { OnErr result (AppendsPart (W.contents writer.old) (W.contents writer.new) bytes.now) }
 {
-    let mut done = 0;
-    while done < bytes.len() {
-        let n = writer.write(&bytes[done..])?;
+    let mut rest = bytes;
+    while !rest.is_empty() {
+        let n = writer.write(rest)?;
         if n == 0 {
             return Err(io::Error::from(io::ErrorKind::WriteZero));
         }
-        done += n;
+        rest = &rest[n..];
     }
     Ok(())
 }
 
 // Reads a text to its end and writes what is printed for it. A text that is a row has at most 579 bytes, so one that fills the buffer is none,
 // and no more of it is read. Before an error a beginning of the answer was written, or nothing.
+#[tactic(auto, using(crate::proofs::Runs::printed_none))]
 pub fn run<R: Read, W: Write>(reader: &mut R, writer: &mut W) -> io::Result<()>
     ensures ok { OnOk result (Prints (R.remaining reader.old) (W.contents writer.old) (W.contents writer.new)) }
     ensures err { OnErr result (PrintsPart (R.remaining reader.old) (W.contents writer.old) (W.contents writer.new)) }

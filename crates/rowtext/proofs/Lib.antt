@@ -1,7 +1,6 @@
 -- Why it holds, by topic.
 pub mod Decimal
 pub mod Numbers
-pub mod Positions
 pub mod Lines
 pub mod Rows
 pub mod Lengths

@@ -2,12 +2,11 @@
 --     line_printed                                    a printed line is read
 --     line_read                                       what was read is a printed line
 --     line_most                                       and its numbers are in range
---     turn_first, turn_on, turn_off, turn_end         the turns of a loop that reads a line number by number
+--     turn_on, turn_off, turn_end                     the turns of a loop that reads a line number by number
 use Prim.Native.Nat.{ℕ, zero, suc, ◌+◌, ◌-◌, ◌<◌, ◌≤◌}
 use mathlib.Core.Path.{◌≡◌, refl, sym, ap, ◌∙◌}
 use mathlib.Core.List.{List, [], ◌∷◌, ◌++◌, append_assoc}
 use native.Mathlib.Omega.{arith}
-use native.Mathlib.Nat.{sub-zero}
 use native.Mathlib.Numerals.{add-one}
 use lib.ListN.{length, take, set}
 use lib.Seq.{take-suc-set}
@@ -87,28 +86,26 @@ pub ahead_none : (vs : List ℕ) → ahead vs nothing ≡ nothing
 ahead_none [] = refl
 ahead_none (v ∷ vs) = rw (ahead_none vs)
 
-pub turn_first : (most w : ℕ) (values l : List ℕ) → read_line most w l ≡ ahead (take 0 values) (read_line most (w - 0) l)
-turn_first most w values l = rw (sub-zero w)
-
--- A turn of the loop that reads a line: s is what the whole line is read as, k of its w numbers are read, l is left.
-module _ (most w k mark : ℕ) (h : k < w) (ends : mark ≡ mark_of (w - k - 1)) (values : List ℕ) (s : Step (List ℕ)) (l : List ℕ) (inv : s ≡ ahead (take k values) (read_line most (w - k) l)) where
-  pub turn_on : (v : ℕ) (m : List ℕ) → k < length values → got v m ≡ read_field most mark l → s ≡ ahead (take (k + 1) (set values k v)) (read_line most (w - (k + 1)) m)
+-- A turn of the loop that reads a line: k of its w numbers are read, l is left.
+module _ (most w k : ℕ) (values l : List ℕ) (h : k < w) where
+  pub turn_on : (v : ℕ) (m : List ℕ) → k < length values → read_field most (mark_of (w - k - 1)) l ≡ got v m → ahead (take k values) (read_line most (w - k) l) ≡ ahead (take (k + 1) (set values k v)) (read_line most (w - (k + 1)) m)
   unfolding read_line
   turn_on v m j e =
       let a : w - k ≡ suc (w - k - 1) = omega arith in
       let b : w - (k + 1) ≡ w - k - 1 = omega arith in
-      inv
-      ∙ rw (a, b, add-one k, take-suc-set values k v j, ahead_more (take k values) v (read_line most (w - k - 1) m), ← ends, ← e)
+      rw (a, b, add-one k, take-suc-set values k v j, ahead_more (take k values) v (read_line most (w - k - 1) m), e)
 
-  pub turn_off : nothing ≡ read_field most mark l → nothing ≡ s
+  pub turn_off : read_field most (mark_of (w - k - 1)) l ≡ nothing → ahead (take k values) (read_line most (w - k) l) ≡ nothing
   unfolding read_line
   turn_off e =
       let a : w - k ≡ suc (w - k - 1) = omega arith in
-      sym (inv ∙ rw (a, ← ends, ← e) (ahead_none (take k values)))
+      rw (a, e) (ahead_none (take k values))
 
-pub turn_end : (most w k : ℕ) → w ≤ k → k ≤ w → (values : List ℕ) (s : Step (List ℕ)) (l : List ℕ) → s ≡ ahead (take k values) (read_line most (w - k) l) → got (take w values) l ≡ s
+pub turn_end : (most w k : ℕ) (values l : List ℕ) → w ≡ k → ahead (take k values) (read_line most (w - k) l) ≡ got (take w values) l
 unfolding read_line
-turn_end most w k h g values s l inv =
-    let a : k ≡ w = omega arith in
+turn_end most w k values l h =
     let b : w - k ≡ 0 = omega arith in
-    sym (inv ∙ rw (b, ahead_all (take k values) l, a))
+    rw (b, h, ahead_all (take k values) l)
+
+-- what a function that reads a line needs of these
+pub ruleset turns = (turn_on, turn_off, turn_end)

@@ -2,23 +2,22 @@
 --     row_printed      the text of a valid row is read, and gives that row
 --     row_read         a text that is read is that of a valid row, the one that was read
 --     text_unique      so a text is that of one valid row at most
-use Prim.Native.Nat.{ℕ, zero, suc, ◌<◌, ◌≤◌}
+use Prim.Native.Nat.{ℕ, zero, suc, ◌≤◌}
 use mathlib.Core.Path.{◌≡◌, refl, sym, ap, subst, ◌∙◌}
 use mathlib.Core.Bool.{cond}
 use mathlib.Core.List.{List, [], ◌∷◌, ◌++◌, append-nil}
 use native.Mathlib.Omega.{arith}
 use lib.Dec.{eqb}
-use lib.ListN.{length, take, drop, drop_of_length-le}
-use borrow.Author.Tests.{eq-eqb, ne_eqb, eqb-false}
+use lib.ListN.{length, take}
+use borrow.Author.Tests.{ne_eqb, eqb-false}
 use Rattle.model.proofs.Choice.{bool_cases}
 use Rattle.model.specs.Row.{greatest}
 use Rattle.rowtext.specs.Format.{RowText, row_text, AtMost, nearest, Valid, newline, decimal, text_line, text_of}
 use Rattle.rowtext.specs.Reader.{Step, got, nothing, then, read_field, read_line, read_end, read_lines, read_row, RowPost}
-use Rattle.rowtext.specs.Promise.{ReadPost}
-use Rattle.rowtext.specs.declared.Parsed.{Parsed}
-use Rattle.rowtext.specs.declared.Parsed.TheVariants.{Row, Bad}
+use Rattle.rowtext.specs.Promise.{IsBad, ReadPost}
+use Rattle.rowtext.specs.declared.Row.{Row}
+use Rattle.std.specs.Prelude.{Option, Some, None, MatchOption}
 use Rattle.rowtext.proofs.Numbers.{got≢nothing, got_value, then_got, field_printed, field_read}
-use Rattle.rowtext.proofs.Positions.{from_here}
 use Rattle.rowtext.proofs.Lines.{one_line, line_printed, line_read, IsLine}
 
 -- a line of w numbers, w at least 1
@@ -91,50 +90,16 @@ row_read text r m e =
 pub text_unique : (r s : RowText) → Valid r → Valid s → text_of r ≡ text_of s → r ≡ s
 text_unique r s v u e = got_value (sym (row_printed r v) ∙ ap read_row e ∙ row_printed s u)
 
--- The steps of the code: what is read of the whole text, after each.
-module _ (w : ℕ) (l : List ℕ) where
-  pub no_samples : nothing ≡ read_line greatest w l → nothing ≡ read_lines w l
-  unfolding read_lines
-  no_samples e = rw (← e)
-
-  module _ (samples m : List ℕ) (first : got samples m ≡ read_line greatest w l) where
-    pub no_depths : nothing ≡ read_line nearest w m → nothing ≡ read_lines w l
-    unfolding read_lines
-    no_depths e = rw (← first, ← e)
-
-    module _ (depths n : List ℕ) (second : got depths n ≡ read_line nearest w m) where
-      pub lines_then : read_end (row_text w samples depths) n ≡ read_lines w l
-      unfolding read_lines
-      lines_then = rw (← first, ← second)
-
-pub not_the_end : (r : RowText) (text : List ℕ) (stop : ℕ) → stop < length text → nothing ≡ read_end r (drop stop text)
-unfolding read_end
-not_the_end r text stop h = rw (from_here text stop h)
-
-pub the_end : (r : RowText) (text : List ℕ) (stop : ℕ) → length text ≤ stop → got r [] ≡ read_end r (drop stop text)
-unfolding read_end
-the_end r text stop h = rw (drop_of_length-le text h)
-
-pub no_width : (text : List ℕ) → nothing ≡ read_field 64 newline text → nothing ≡ read_row text
+pub width_then : (text : List ℕ) (w : ℕ) (l : List ℕ) → read_field 64 newline text ≡ got w l → (w ≡ 0 → ⊥) → read_row text ≡ read_lines w l
 unfolding read_row
-no_width text e = rw (← e)
-
-pub zero_width : (text : List ℕ) (w : ℕ) (l : List ℕ) → got w l ≡ read_field 64 newline text → w ≡ 0 → nothing ≡ read_row text
-unfolding read_row
-zero_width text w l e z = rw (← e, eq-eqb w 0 z)
-
-pub width_then : (text : List ℕ) (w : ℕ) (l : List ℕ) → got w l ≡ read_field 64 newline text → (w ≡ 0 → ⊥) → read_lines w l ≡ read_row text
-unfolding read_row
-width_then text w l e z = rw (← e, ne_eqb w 0 z)
+width_then text w l e z = rw (e, ne_eqb w 0 z)
 
 -- what the promise says of what was read
-pub promised : (text : List ℕ) (s : Step RowText) → s ≡ read_row text → (r : Parsed) (samples depths : List ℕ) → RowPost s r samples depths → ReadPost text r samples depths
-promised text s e (Row w) samples depths p =
-    let r = row_read text (row_text w (take w samples) (take w depths)) [] (sym (p.read ∙ e)) in
-    record { valid = r.0; is_text = r.1; spare_samples = p.spare_samples; spare_depths = p.spare_depths }
-promised text s e Bad samples depths p =
-    record {
-      none = λ r v t. got≢nothing (p.read ∙ e ∙ ap read_row t ∙ row_printed r v);
-      spare_samples = p.spare_samples;
-      spare_depths = p.spare_depths;
-    }
+pub not_read : (text : List ℕ) → read_row text ≡ nothing → IsBad text
+not_read text e = record { none = λ r v t. got≢nothing (sym e ∙ ap read_row t ∙ row_printed r v) }
+
+pub promised : (text : List ℕ) (s : Step RowText) → read_row text ≡ s → (o : Option Row) → MatchOption o (s ≡ nothing) (λ r. RowPost s r.w r.samples r.depths) → ReadPost text o
+promised text s e None p = not_read text (e ∙ p)
+promised text s e (Some r) p =
+    let (valid, is_text) = row_read text (row_text r.w (take r.w r.samples) (take r.w r.depths)) [] (e ∙ p.read) in
+    record { valid = valid; is_text = is_text; spare_samples = p.spare_samples; spare_depths = p.spare_depths }

@@ -1,7 +1,6 @@
 -- What reading a text promises: a row exactly where the text is that of a valid row, and then that row.
-use Rattle.std.specs.Prelude.{ℕ, ◌≤◌, ◌≡◌, List, get_or, take}
-use Rattle.rowtext.specs.declared.Parsed.{Parsed}
-use Rattle.rowtext.specs.declared.Parsed.TheVariants.{Row, Bad}
+use Rattle.std.specs.Prelude.{ℕ, ◌≤◌, ◌≡◌, List, get_or, take, Option, Some, None}
+use Rattle.rowtext.specs.declared.Row.{Row}
 use Rattle.rowtext.specs.Format.{RowText, row_text, Valid, text_of}
 
 -- The entries from n on are 0.
@@ -15,12 +14,10 @@ pub record IsRow (text : List ℕ) (w : ℕ) (samples depths : List ℕ) : Type 
   pub spare_samples : ZeroFrom w samples
   pub spare_depths : ZeroFrom w depths
 
--- The text is that of no valid row. All entries are 0.
-pub record IsBad (text samples depths : List ℕ) : Type 0 where
+-- The text is that of no valid row.
+pub record IsBad (text : List ℕ) : Type 0 where
   pub none : (r : RowText) → Valid r → text ≡ text_of r → ⊥
-  pub spare_samples : ZeroFrom 0 samples
-  pub spare_depths : ZeroFrom 0 depths
 
-abbrev pub ReadPost : List ℕ → Parsed → List ℕ → List ℕ → Type 0
-ReadPost text (Row w) samples depths = IsRow text w samples depths
-ReadPost text Bad samples depths = IsBad text samples depths
+abbrev pub ReadPost : List ℕ → Option Row → Type 0
+ReadPost text (Some row) = IsRow text row.w row.samples row.depths
+ReadPost text None = IsBad text

@@ -1,10 +1,11 @@
-// The text that the row printer reads: three lines of decimal numbers, read by position.
+// The text that the row printer reads: three lines of decimal numbers, read from the left.
 #![tactic(auto)]
 
-ghost use Rattle.std.specs.Prelude.{◌≡◌, ℕ, ◌+◌, ◌-◌, ◌*◌, ◌≤◌, ◌<◌, length, get_or, drop, replicate};
+ghost use Rattle.std.specs.Prelude.{◌≡◌, ℕ, ◌-◌, ◌≤◌, length, slice_index, replicate, MatchOption};
 ghost use Rattle.rowtext.specs.Format.{nearest};
 ghost use Rattle.rowtext.specs.Promise.{ReadPost};
 ghost use Rattle.rowtext.specs.Reader.{
+  got,
   nothing,
   digit_of,
   read_number,
@@ -12,229 +13,148 @@ ghost use Rattle.rowtext.specs.Reader.{
   read_line,
   read_lines,
   mark_of,
-  NumberPost,
   LinePost,
   RowPost,
 };
 
-// A number in the text and where the text goes on after it.
+// A number that was read, and the text after it.
 #[derive(Drop)]
-enum Number {
-    Found { value: u16, next: usize },
-    Missing,
+struct Number<'a> {
+    value: u16,
+    rest: &'a [u8],
 }
 
-// Where the text goes on after a line.
+// A line's numbers, 0 past them, and the text after it.
 #[derive(Drop)]
-enum End {
-    At(usize),
-    Broken,
-}
-
-// A line's numbers, and 0 past them.
-#[derive(Drop)]
-struct Line {
-    end: End,
+struct Line<'a> {
     values: [u16; 64],
-}
-
-// Whether a text is that of a row, and its w.
-#[derive(Drop)]
-pub enum Parsed {
-    Row(usize),
-    Bad,
+    rest: &'a [u8],
 }
 
 // A row that was read: the first w samples and depths, and 0 past them.
 #[derive(Drop)]
-pub struct Reading {
-    pub parsed: Parsed,
+pub struct Row {
+    pub w: usize,
     pub samples: [u16; 64],
     pub depths: [u8; 64],
 }
 
-// The byte at a position, 0 past the end.
-fn byte_at(text: &[u8], at: usize) -> u8
-    ensures { result ≡ get_or text.now at 0 }
+// The digit that a byte stands for.
+#[tactic(auto, using(std::proofs::lemmas::Bool::Decides::nat_tests), unfolding(crate::specs::Reader::digit_of))]
+fn digit_of(b: u8) -> Option<u16>
+    ensures { result ≡ digit_of b }
 {
-    if at < text.len() { text[at] } else { 0 }
-}
-
-// The digit that a byte stands for, 10 where it stands for none.
-fn digit_of(b: u8) -> u16
-    ensures { (result ≡ digit_of b) × (result ≤ 10) }
-{
-    if b < 48 {
-        return 10;
+    match b {
+        b'0'..=b'9' => Some(u16::from(b - b'0')),
+        _ => None,
     }
-    if 57 < b {
-        return 10;
-    }
-    (b - 48) as u16
 }
 
-// The digit at a position, 10 where there is none.
-fn digit_at(text: &[u8], at: usize) -> u16
-    ensures { (result ≡ digit_of (get_or text.now at 0)) × (result ≤ 10) }
-{
-    digit_of(byte_at(text, at))
-}
-
-// The number at a position, if it is at most `most`. Ten times that, and a digit, fit 16 bits.
-fn read_number(text: &[u8], at: usize, most: u16) -> Number
+// The number that the text begins with, if it is at most `most`. Ten times that, and a digit, fit 16 bits.
+#[tactic(auto, using(crate::proofs::Numbers::reading))]
+fn read_number(text: &[u8], most: u16) -> Option<Number>
     requires { (9 ≤ most) × (most ≤ 6000) }
-    ensures { NumberPost text.now most (read_number most (drop at text.now)) result }
+    ensures { MatchOption result (read_number most text.now ≡ nothing) (λ n. read_number most text.now ≡ got n.value n.rest.now) }
 {
-    let first = digit_at(text, at);
-    if 10 <= first {
-        return Number::Missing;
-    }
-    let mut value = first;
-    let mut next = at + 1;
-    loop {
-        let d = digit_at(text, next);
-        if 10 <= d {
-            return Number::Found {
-                value: value,
-                next: next,
-            };
-        }
+    let (first, mut rest) = text.split_first()?;
+    let mut value = digit_of(*first)?;
+    while let Some((b, after)) = rest.split_first() {
+        let Some(digit) = digit_of(*b) else {
+            break;
+        };
         if value == 0 {
-            return Number::Missing;
+            return None;
         }
-        value = 10 * value + d;
+        value = 10 * value + digit;
         if most < value {
-            return Number::Missing;
+            return None;
         }
-        next += 1;
+        rest = after;
     }
+    Some(Number { value, rest })
 }
 
-// The number at a position and the byte `mark` that ends it.
-fn read_field(text: &[u8], at: usize, most: u16, mark: u8) -> Number
-    requires { (9 ≤ most) × (most ≤ 6000) × (0 < mark) }
-    ensures { NumberPost text.now most (read_field most mark (drop at text.now)) result }
+// The number that the text begins with and the byte `mark` that ends it.
+#[tactic(auto, using(std::proofs::lemmas::Bool::Decides::nat_tests), unfolding(crate::specs::Reader::read_field, crate::specs::Reader::read_mark))]
+fn read_field(text: &[u8], most: u16, mark: u8) -> Option<Number>
+    requires { (9 ≤ most) × (most ≤ 6000) }
+    ensures { MatchOption result (read_field most mark text.now ≡ nothing) (λ n. read_field most mark text.now ≡ got n.value n.rest.now) }
 {
-    let Number::Found { value, next } = read_number(text, at, most) else {
-        return Number::Missing;
-    };
-    if byte_at(text, next) == mark {
-        return Number::Found {
-            value: value,
-            next: next + 1,
-        };
+    let number = read_number(text, most)?;
+    let (end, rest) = number.rest.split_first()?;
+    if *end == mark {
+        Some(Number {
+            value: number.value,
+            rest,
+        })
+    } else {
+        None
     }
-    Number::Missing
 }
 
 // What ends a number with n more of its line to come: a space, or the newline.
 fn mark_of(n: usize) -> u8
-    ensures { (result ≡ mark_of n) × (0 < result) }
+    ensures { result ≡ mark_of n }
 {
-    if n == 0 { 10 } else { 32 }
-}
-
-// Room for the numbers of a line.
-fn zeros() -> [u16; 64]
-    ensures { result ≡ replicate 64 0 }
-{
-    [0; 64]
+    if n == 0 { b'\n' } else { b' ' }
 }
 
 // A line of w numbers, each 0 to `most`.
-fn read_line(text: &[u8], from: usize, w: usize, most: u16) -> Line
+#[tactic(auto, using(crate::proofs::Lines::turns))]
+fn read_line(text: &[u8], w: usize, most: u16) -> Option<Line>
     requires { (w ≤ 64) × (9 ≤ most) × (most ≤ 6000) }
-    ensures { LinePost text.now w (read_line most w (drop from text.now)) result.values result.end }
+    ensures { MatchOption result (read_line most w text.now ≡ nothing) (λ l. LinePost w (read_line most w text.now) l.values l.rest.now) }
 {
-    let mut values = zeros();
-    let mut at = from;
-    let mut k: usize = 0;
-    while k < w {
-        let Number::Found { value, next } = read_field(text, at, most, mark_of(w - k - 1)) else {
-            return Line {
-                end: End::Broken,
-                values: values,
-            };
-        };
-        values[k] = value;
-        at = next;
-        k += 1;
+    let mut values = [0; 64];
+    let mut rest = text;
+    for k in 0..w {
+        let number = read_field(rest, most, mark_of(w - k - 1))?;
+        values[k] = number.value;
+        rest = number.rest;
     }
-    Line {
-        end: End::At(at),
-        values: values,
-    }
-}
-
-// A number as the byte that holds it.
-fn narrow(value: u16) -> u8
-    requires { value ≤ nearest }
-    ensures { result ≡ value }
-{
-    value as u8
+    Some(Line { values, rest })
 }
 
 // Depths as the bytes that hold them.
 fn bytes(values: &[u16; 64]) -> [u8; 64]
-    requires { (length values.now ≡ 64) × ((i : ℕ) → get_or values.now i 0 ≤ nearest) }
+    requires { (length values.now ≡ 64) × ((i : ℕ) → slice_index values.now i ≤ nearest) }
     ensures { result ≡ values.now }
 {
-    let mut narrowed = [0u8; 64];
-    let mut i = 0;
-    while i < 64 {
-        narrowed[i] = narrow(values[i]);
-        i += 1;
+    let mut narrowed = [0; 64];
+    for (i, value) in values.iter().enumerate() {
+        narrowed[i] = *value as u8;
     }
     narrowed
 }
 
-// The answer to a text that is no row's.
-fn bad() -> Reading
-    ensures { RowPost nothing result.parsed result.samples result.depths }
-{
-    Reading {
-        parsed: Parsed::Bad,
-        samples: zeros(),
-        depths: [0; 64],
-    }
-}
-
 // The two lines after w, to the text's end.
-fn read_lines(text: &[u8], from: usize, w: usize) -> Reading
+#[tactic(auto, unfolding(crate::specs::Reader::read_lines, crate::specs::Reader::read_end))]
+fn read_lines(text: &[u8], w: usize) -> Option<Row>
     requires { w ≤ 64 }
-    ensures { RowPost (read_lines w (drop from text.now)) result.parsed result.samples result.depths }
+    ensures { MatchOption result (read_lines w text.now ≡ nothing) (λ r. RowPost (read_lines w text.now) r.w r.samples r.depths) }
 {
-    let first = read_line(text, from, w, 1023);
-    let first_end = first.end;
-    let End::At(middle) = first_end else {
-        return bad();
-    };
-    let second = read_line(text, middle, w, 255);
-    let second_end = second.end;
-    let End::At(stop) = second_end else {
-        return bad();
-    };
-    if stop < text.len() {
-        return bad();
+    let first = read_line(text, w, 1023)?;
+    let second = read_line(first.rest, w, 255)?;
+    if !second.rest.is_empty() {
+        return None;
     }
     let samples = first.values;
     let depths = second.values;
-    Reading {
-        parsed: Parsed::Row(w),
-        samples: samples,
+    Some(Row {
+        w,
+        samples,
         depths: bytes(&depths),
-    }
+    })
 }
 
 // The row that a text is, if it is one.
-pub fn read_row(text: &[u8]) -> Reading
-    ensures { ReadPost text.now result.parsed result.samples result.depths }
+#[tactic(auto, using(crate::proofs::Rows::not_read), unfolding(crate::specs::Reader::read_row))]
+pub fn read_row(text: &[u8]) -> Option<Row>
+    ensures { ReadPost text.now result }
 {
-    let Number::Found { value, next } = read_field(text, 0, 64, 10) else {
-        return bad();
-    };
-    if value == 0 {
-        return bad();
+    let width = read_field(text, 64, b'\n')?;
+    if width.value == 0 {
+        return None;
     }
-    read_lines(text, next, value as usize)
+    read_lines(width.rest, usize::from(width.value))
 }

@@ -18,15 +18,13 @@ use borrow.Author.Tests.{ltb-true, eqb-true, eqb-false}
 use Rattle.model.specs.declared.Settings.{Settings}
 use Rattle.model.specs.declared.Block.{Block}
 use Rattle.model.specs.declared.Candidate.{Candidate}
-use Rattle.model.specs.declared.Opened.{Opened}
-use Rattle.model.specs.declared.Trial.{Trial}
-use Rattle.model.specs.declared.Edited.{Edited}
+use Rattle.model.specs.Replies.{OpenReply, TrialReply, EditReply}
 use Rattle.model.specs.Planes.{Pictures, Depths, Held, State, area, with_total, with_seat, with_reference, read_held}
 use Rattle.model.specs.Fresh.{fresh, fresh_total}
 use Rattle.model.specs.Candidates.{filled}
 use Rattle.model.specs.Blocks.{written, old_depths, change_of}
 use Rattle.model.specs.Journals.{newest, record_view, record_block, record_depths, saved, taken_back, emptied}
-use Rattle.model.specs.Refusals.{number_of, unless, tables_ok, share_ok, tear_ok, words_ok, picture_ok, pictures_ok, open_number, own_then, saving_then, taking_then, call_then, early_number, take_back_early, in_range}
+use Rattle.model.specs.Refusals.{unless, tables_ok, share_ok, tear_ok, words_ok, picture_ok, pictures_ok, open_number, own_then, saving_then, taking_then, call_then, early_number, take_back_early, in_range}
 use Rattle.model.specs.Promises.{FillPost, Sound, GetPost, EditPost, SetPost, TakeBackPost, MovePost}
 use Rattle.model.proofs.Choice.{bool_cases}
 use Rattle.model.proofs.Fresh.{fresh_total_lem, fresh_total_total}
@@ -36,12 +34,12 @@ use Rattle.model.proofs.Journals.{saving_sides, taking_sides}
 use Rattle.model.proofs.Readings.{sound_read}
 use Rattle.model.proofs.Promises.{get_early, set_early, edit_settings}
 use Rattle.run.specs.Calls.{events_by, AllBy}
-use Rattle.run.specs.Run.{Reply, Event, Plain, plain, reply_of, leaves, pictures_after, move_number, plain_answer, plain_state, Local, Refuses, Edits, Moves, OfMove}
+use Rattle.run.specs.Run.{Reply, Event, Plain, plain, reply_of, leaves, pictures_after, move_number, plain_answer, plain_state, Refuses, Edits, Moves, OfMove}
 use Rattle.run.proofs.Steps.{Ready, ready, ready_written, ready_common, ready_move, ready_moved, change_of_total, state_total, state_sound, local_written}
 
 -- ---- OPEN and MOVE
 
-module _ (s n : Settings) (p : Pictures) (d : Depths) (h₀ h : Held) (j₀ j : List ℕ) (o : Opened) (post : FillPost s n p d h₀ h j₀ j o) (accepted : number_of o.refusal ≡ 0) where
+module _ (s n : Settings) (p : Pictures) (d : Depths) (h₀ h : Held) (j₀ j : List ℕ) (o : OpenReply) (post : FillPost s n p d h₀ h j₀ j o) (accepted : o.number ≡ 0) where
   none : open_number n p d h₀ j₀ ≡ 0
   none = sym post.number ∙ accepted
 
@@ -75,8 +73,8 @@ module _ {A : Type 0} where
 -- the number of some tests and a rest is that of the tests or the rest
 pub either : (P : ℕ → Type 0) {f : ℕ → ℕ} → Before f → (rest : ℕ) → P (f 0) → P rest → P (f rest)
 either P {f = f} a rest u v =
-    bool_cases (eqb (f 0) 0) (λ t. subst P (sym (a.rest rest (eqb-true (f 0) 0 t))) v)
-    (λ t. subst P (sym (a.stays rest (eqb-false (f 0) 0 t))) u)
+    bool_cases (eqb (f 0) 0) (λ t. rw (a.rest rest (eqb-true (f 0) 0 t)) v)
+    (λ t. rw (a.stays rest (eqb-false (f 0) 0 t)) u)
 
 pub unless_either : (P : ℕ → Type 0) (t : Bool) (k rest : ℕ) → P k → P rest → P (unless t k rest)
 unless_either P true k rest u v = v
@@ -98,8 +96,8 @@ move_usual P of s to reference j thirteen =
 -- a test that holds wherever those before it do never applies
 settled : {f : ℕ → ℕ} → Before f → (t : Bool) (rest : ℕ) → (f 0 ≡ 0 → t ≡ true) → f (unless t 8 rest) ≡ f rest
 settled {f = f} a t rest h =
-    bool_cases (eqb (f 0) 0) (λ z. ap (λ (y : Bool). f (unless y 8 rest)) (h (eqb-true (f 0) 0 z)))
-    (λ z. let ne = eqb-false (f 0) 0 z in a.stays (unless t 8 rest) ne ∙ sym (a.stays rest ne))
+    bool_cases (eqb (f 0) 0) (λ z. rw (h (eqb-true (f 0) 0 z)))
+    (λ z. let ne = eqb-false (f 0) 0 z in rw (a.stays (unless t 8 rest) ne, a.stays rest ne))
 
 -- an accepted SET has passed its own tests
 pub set_own : (s : Settings) (v : ℕ) (b : Block) (c : Candidate) (n rest : ℕ) → own_then s v b c n rest ≡ 0 → OwnTests s v b c n
@@ -174,7 +172,7 @@ edit_kept r ok v b c h inside = (
   done_refuses h,
   λ z.
       let i = inside (sym h.number ∙ z) in
-      subst (λ (x : State). Local (plain_state r).settings v b (plain_state r) x) (sym (h.after z))
+      rw (h.after z)
       (local_written r.settings r.pictures r.depths ok.depths v b c (record { some = i.width; inside = i.right })),
 )
 
@@ -233,10 +231,10 @@ module _ (r : Plain) (ok : Ready r) where
   -- ---- what SET and TAKE BACK have in common; n is the number by the plain record
 
   edit :
-      (v : ℕ) (b : Block) (c : List ℕ) (early : ℕ) (found : ℤ) (t : Edited) (e : Depths) (g : Held) → EditPost S p d e F g v b c early found t →
-      (number_of t.refusal ≡ 0 → early ≡ 0) → (n : ℕ) → number_of t.refusal ≡ n → (j new k : List ℕ) → ((number_of t.refusal ≡ 0 → ⊥) → k ≡ j) →
-      (number_of t.refusal ≡ 0 → k ≡ new) →
-      Done r (edited r v b c) n (change_of s p d v b c) j new (record { reply = reply_of t.refusal t.change; after = leaves t.settings e g; journal = k })
+      (v : ℕ) (b : Block) (c : List ℕ) (early : ℕ) (found : ℤ) (t : EditReply) (e : Depths) (g : Held) → EditPost S p d e F g v b c early found t →
+      (t.number ≡ 0 → early ≡ 0) → (n : ℕ) → t.number ≡ n → (j new k : List ℕ) → ((t.number ≡ 0 → ⊥) → k ≡ j) →
+      (t.number ≡ 0 → k ≡ new) →
+      Done r (edited r v b c) n (change_of s p d v b c) j new (record { reply = reply_of t.number t.change; after = leaves t.settings e g; journal = k })
   unfolding plain_state
   edit v b c early found t e g h tested n number j new k none some =
       record {
@@ -244,13 +242,8 @@ module _ (r : Plain) (ok : Ready r) where
         change = λ z. h.change z ∙ h.decided (tested z) sound_as_read ∙ change_of_total s _ p d v b c;
         refused_change = h.refused_change;
         after = λ z.
-            let w : e ≡ written s v b c d = h.depths z ∙ written_total s _ v b c d in
-            let q : t.settings ≡ with_total s (fresh_total s p (written s v b c d)) =
-            edit_settings S p d e F g v b c early found t h (tested z) z ok.depths ok.share sound
-            ∙ ap (with_total s) (ap (fresh_total S p) (written_total s _ v b c d) ∙ fresh_total_total s _ p (written s v b c d)) in
-            let y : g ≡ fresh s p (written s v b c d) =
-            h.held z sound ∙ ap (fresh S p) (written_total s _ v b c d) ∙ fresh_total_lem s _ p (written s v b c d) in
-            rw (w, y, q);
+            let q = edit_settings S p d e F g v b c early found t h (tested z) z ok.depths ok.share sound in
+            rw (h.depths z, h.held z sound, q, written_total s _ v b c d, fresh_total_lem s _ p (written s v b c d), fresh_total_total s _ p (written s v b c d));
         refused_after = λ z. rw (h.refused_depths z, h.refused_held z, h.refused_settings z);
         journal = some;
         refused_journal = none;
@@ -260,15 +253,12 @@ module _ (r : Plain) (ok : Ready r) where
   -- ---- each call, on that session and the journal J
 
   module _ (J : List ℕ) {q : Pictures} {st : State} {j : List ℕ} (same : q ≡ p) (now : st ≡ plain_state r) (lent : j ≡ J) where
-    carried : (P : Pictures → State → List ℕ → Type 0) → P q st j → P p (plain_state r) J
-    carried P x = subst (P p (plain_state r)) lent (subst (λ (y : State). P p y j) now (subst (λ (y : Pictures). P y st j) same x))
-
     pub get_done :
-        (v : ℕ) (b : Block) (c : Candidate) (x : List ℕ) (t : Trial) → GetPost st.settings q st.depths st.held v b c x t →
-        Done r r (own_then s v b c (length x) 0) (change_of s p d v b (filled b c x)) J J (record { reply = reply_of t.refusal t.change; after = st; journal = j })
+        (v : ℕ) (b : Block) (c : Candidate) (x : List ℕ) (t : TrialReply) → GetPost st.settings q st.depths st.held v b c x t →
+        Done r r (own_then s v b c (length x) 0) (change_of s p d v b (filled b c x)) J J (record { reply = reply_of t.number t.change; after = st; journal = j })
     unfolding plain_state
     get_done v b c x t post =
-        let h = carried (λ (p : Pictures) (y : State) (j : List ℕ). GetPost y.settings p y.depths y.held v b c x t) post in
+        let h = rw (same, now) at post in
         record {
           number = h.number ∙ call v b c x h.found 0 h.change_in_range;
           change = λ z.
@@ -283,21 +273,21 @@ module _ (r : Plain) (ok : Ready r) where
         }
 
     pub set_done :
-        (v : ℕ) (b : Block) (c : Candidate) (x : List ℕ) (t : Edited) (e : Depths) (g : Held) (k : List ℕ) → SetPost st.settings q st.depths e st.held g j k v b c x t →
-        Done r (edited r v b (filled b c x)) (own_then s v b c (length x) (saving_then s b J 0)) (change_of s p d v b (filled b c x)) J (saved J v b (old_depths s v b d)) (record { reply = reply_of t.refusal t.change; after = leaves t.settings e g; journal = k })
+        (v : ℕ) (b : Block) (c : Candidate) (x : List ℕ) (t : EditReply) (e : Depths) (g : Held) (k : List ℕ) → SetPost st.settings q st.depths e st.held g j k v b c x t →
+        Done r (edited r v b (filled b c x)) (own_then s v b c (length x) (saving_then s b J 0)) (change_of s p d v b (filled b c x)) J (saved J v b (old_depths s v b d)) (record { reply = reply_of t.number t.change; after = leaves t.settings e g; journal = k })
     unfolding plain_state
     set_done v b c x t e g k post =
-        let h = carried (λ (p : Pictures) (y : State) (j : List ℕ). SetPost y.settings p y.depths e y.held g j k v b c x t) post in
+        let h = rw (same, now, lent) at post in
         let n = h.number ∙ call v b c x h.found _ h.edit.change_in_range ∙ ap (own_then s v b c (length x)) (saving_sides S s b J 0 refl refl) in
         edit v b (filled b c x) _ _ t e g h.edit (set_early S p d F v b c x h)
         _ n J _ k h.refused_journal h.journal
 
     pub take_done :
-        (t : Edited) (e : Depths) (g : Held) (k : List ℕ) → TakeBackPost st.settings q st.depths e st.held g j k t →
-        Done r (edited r (record_view J (newest J)) (record_block J (newest J)) (record_depths J (newest J))) (taking_then s J 0) (change_of s p d (record_view J (newest J)) (record_block J (newest J)) (record_depths J (newest J))) J (taken_back J) (record { reply = reply_of t.refusal t.change; after = leaves t.settings e g; journal = k })
+        (t : EditReply) (e : Depths) (g : Held) (k : List ℕ) → TakeBackPost st.settings q st.depths e st.held g j k t →
+        Done r (edited r (record_view J (newest J)) (record_block J (newest J)) (record_depths J (newest J))) (taking_then s J 0) (change_of s p d (record_view J (newest J)) (record_block J (newest J)) (record_depths J (newest J))) J (taken_back J) (record { reply = reply_of t.number t.change; after = leaves t.settings e g; journal = k })
     unfolding plain_state
     take_done t e g k post =
-        let h = carried (λ (p : Pictures) (y : State) (j : List ℕ). TakeBackPost y.settings p y.depths e y.held g j k t) post in
+        let h = rw (same, now, lent) at post in
         let early : take_back_early S p d F J ≡ taking_then s J 0 = ready_common r ok _ _ ∙ taking_sides S s J 0 refl refl in
         let n =
         h.number ∙ ready_common r ok _ _ ∙ taking_sides S s J _ refl refl
@@ -306,11 +296,11 @@ module _ (r : Plain) (ok : Ready r) where
         _ n J _ k h.refused_journal h.journal
 
     pub move_done :
-        (to : Settings) (reference : List ℕ) (t : Opened) (g : Held) (k : List ℕ) → MovePost st.settings to (with_reference q reference) st.depths st.held g j k t →
-        Done r (plain (with_seat s to) (with_reference p reference) d) (move_number s to reference J) (pos 0) J (emptied J) (record { reply = reply_of t.refusal (pos 0); after = leaves t.settings st.depths g; journal = k })
+        (to : Settings) (reference : List ℕ) (t : OpenReply) (g : Held) (k : List ℕ) → MovePost st.settings to (with_reference q reference) st.depths st.held g j k t →
+        Done r (plain (with_seat s to) (with_reference p reference) d) (move_number s to reference J) (pos 0) J (emptied J) (record { reply = reply_of t.number (pos 0); after = leaves t.settings st.depths g; journal = k })
     unfolding plain_state
     move_done to reference t g k post =
-        let h = carried (λ (p : Pictures) (y : State) (j : List ℕ). MovePost y.settings to (with_reference p reference) y.depths y.held g j k t) post in
+        let h = rw (same, now, lent) at post in
         let depths : st.depths ≡ d = ap (λ (y : State). y.depths) now in
         let n = h.number ∙ ready_move r ok to reference J _ in
         record {

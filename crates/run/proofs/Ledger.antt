@@ -10,9 +10,10 @@ use mathlib.Core.Path.{◌≡◌, refl, ap, sym, ◌∙◌, subst}
 use mathlib.Core.Bool.{true, cond}
 use mathlib.Core.List.{List, [], ◌∷◌}
 use native.Mathlib.Omega.{arith}
-use lib.Dec.{leb, eqb}
+use lib.Dec.{eqb}
+use Rattle.std.proofs.lemmas.Bool.Decides.{nat_tests}
 use lib.ListN.{length, get_or}
-use borrow.Author.Tests.{lt-ltb, leb-true, eq-eqb, ne_eqb, eqb-true, eqb-false}
+use borrow.Author.Tests.{lt-ltb, eq-eqb, ne_eqb, eqb-true, eqb-false}
 use Rattle.model.specs.declared.Settings.{Settings}
 use Rattle.model.specs.declared.Block.{Block}
 use Rattle.model.specs.Views.{is_right}
@@ -21,7 +22,7 @@ use Rattle.model.specs.Blocks.{written, old_depths}
 use Rattle.model.specs.Journals.{word_at, newest, index_before, record_view, record_block, record_depths, record_size, record_end, next_index, saved, taken_back, emptied}
 use Rattle.model.specs.Refusals.{chain_ok, journal_ok, room_ok, taking_then}
 use Rattle.model.specs.Promises.{EightBit}
-use Rattle.model.proofs.Choice.{bool_cases, and_left, and_true}
+use Rattle.model.proofs.Choice.{bool_cases, and_true}
 use Rattle.model.proofs.Fresh.{DepthsSized}
 use Rattle.model.proofs.Written.{length-old, old_most, written_back}
 use Rattle.model.proofs.Refusals.{Inside, up_to_yes}
@@ -88,15 +89,14 @@ end_kept j k i words =
 
 module _ (s : Settings) (d : Depths) (j : List ℕ) (i : ℕ) (k : Standing) (ks : List Standing) (l : Link s d j i k ks) where
   link_some : 0 < i
-  link_some = omega (arith, end_beyond j (index_before j i), l.after)
+  link_some = omega (arith, end_beyond j (index_before j i))
 
   link_falls : index_before j i < i
-  link_falls = omega (arith, end_beyond j (index_before j i), l.after)
+  link_falls = omega (arith, end_beyond j (index_before j i))
 
 -- the depths that stand in a block are 8-bit ones
 eight_old : (s : Settings) (v : ℕ) (b : Block) (d : Depths) → EightBit d → (i : ℕ) → get_or (old_depths s v b d) i 0 ≤ 255
-eight_old s v b d h =
-    bool_cases (is_right v) (λ t. rw t (old_most s.w b d.right 255 h.right)) (λ t. rw t (old_most s.w b d.left 255 h.left))
+eight_old s v b d h i = grind (arith, old_most s.w b d.right 255 h.right i, old_most s.w b d.left 255 h.left i)
 
 -- ---- 13 never applies
 
@@ -104,7 +104,6 @@ holds_chain : (s : Settings) (d : Depths) (j : List ℕ) (i : ℕ) (ks : List St
 unfolding Holds
 holds_chain s d j i [] e = chain_zero s j i e
 holds_chain s d j i (k ∷ ks) (l, rest) =
-    let some = link_some s d j i k ks l in
     let falls = link_falls s d j i k ks l in
     chain_step s j i (λ z. omega arith)
     ∙ and_true _ _
@@ -112,7 +111,7 @@ holds_chain s d j i (k ∷ ks) (l, rest) =
     (record {
       end = l.end;
       view = rw l.view l.most;
-      block = subst (Inside s) (sym l.block) l.inside;
+      block = rw l.block l.inside;
       depths = rw l.depths (up_to_yes 255 _ (eight_old s k.view k.block (in_turn s d ks) l.eight_bit));
     }))
     (and_true _ _ (lt-ltb (index_before j i) i falls) (holds_chain s d j (index_before j i) ks rest))
@@ -150,10 +149,10 @@ holds_kept s d j k same m words i (x ∷ ks) h (l, rest) =
     let z : record_end k i ≡ record_end j i = ap (λ (b : Block). i + record_size b) b in
     let before : index_before k i ≡ index_before j i = here i (omega arith) (omega arith) in
     let below : end_at k (index_before k i) ≡ end_at j (index_before j i) =
-    ap (end_at k) before ∙ end_kept j k (index_before j i) (λ n u v. words n u (omega (arith, l.after))) in (
+    ap (end_at k) before ∙ end_kept j k (index_before j i) (λ n u v. words n u (omega arith)) in (
       record {
-        after = omega (arith, below, l.after);
-        end = omega (arith, z, same, l.end);
+        after = omega arith;
+        end = omega arith;
         view = here (i + 1) (omega arith) (omega arith) ∙ l.view;
         block = b ∙ l.block;
         depths = depths_kept j k i here same ∙ l.depths;
@@ -161,7 +160,7 @@ holds_kept s d j k same m words i (x ∷ ks) h (l, rest) =
         inside = l.inside;
         eight_bit = l.eight_bit;
       },
-      subst (λ (n : ℕ). Holds s d k n ks) (sym before) (holds_kept s d j k same m words (index_before j i) ks (omega (arith, l.after)) rest),
+      subst (λ (n : ℕ). Holds s d k n ks) (sym before) (holds_kept s d j k same m words (index_before j i) ks (omega arith) rest),
     )
 
 -- ---- OPEN or MOVE, SET and TAKE BACK
@@ -179,7 +178,7 @@ ledger_saved s d j ks v b c h view inside room eight =
     let old : List ℕ = old_depths s v b (in_turn s d ks) in
     let k : List ℕ = saved j v b old in
     let i : ℕ = next_index j in
-    let fits : i + record_size b ≤ length j = leb-true (next_index j + record_size b) (length j) (and_left (leb (next_index j + record_size b) (length j)) _ room) in
+    let fits : i + record_size b ≤ length j = grind (arith, nat_tests) in
     let same : length k ≡ length j = length-saved j v b old in
     let before : index_before k i ≡ newest j = saved_before j v b old fits in
     let block : record_block k i ≡ b = saved_block j v b old fits in
@@ -192,8 +191,8 @@ ledger_saved s d j ks v b c h view inside room eight =
       words = rw same h.words;
       holds = subst (λ (n : ℕ). Holds s d k n (record { view = v; block = b; depths = c } ∷ ks)) (sym (saved_newest j v b old h.words)) (
         record {
-          after = omega (arith, below);
-          end = omega (arith, end, same, fits);
+          after = omega arith;
+          end = omega arith;
           view = saved_view j v b old fits;
           block = block;
           depths = saved_depths j v b old fits (length-old s.w b (depths_of (in_turn s d ks) (is_right v)));
@@ -201,7 +200,7 @@ ledger_saved s d j ks v b c h view inside room eight =
           inside = inside;
           eight_bit = h.eight_bit;
         },
-        subst (λ (n : ℕ). Holds s d k n ks) (sym before) (holds_kept s d j k same i stays (newest j) ks (omega (arith, next)) h.holds),
+        subst (λ (n : ℕ). Holds s d k n ks) (sym before) (holds_kept s d j k same i stays (newest j) ks (omega arith) h.holds),
       );
       eight_bit = eight;
     }
@@ -209,7 +208,7 @@ ledger_saved s d j ks v b c h view inside room eight =
 module _ (s : Settings) (d : Depths) (j : List ℕ) where
   pub ledger_taken : (ks : List Standing) → Ledger s d j ks → taking_then s j 0 ≡ 0 → Ledger s d (taken_back j) (struck ks)
   unfolding Holds struck
-  ledger_taken [] h e = absurd (omega (arith, e, taking_none s d j h))
+  ledger_taken [] h e = absurd (omega (arith, taking_none s d j h))
   ledger_taken (k ∷ ks) h e =
       let l = h.holds.0 in
       let n : ℕ = index_before j (newest j) in
@@ -225,17 +224,13 @@ module _ (s : Settings) (d : Depths) (j : List ℕ) where
       (ks : List Standing) → Ledger s d j ks → taking_then s j 0 ≡ 0 → ((ks : List Standing) → DepthsSized s (in_turn s d ks)) →
       written s (record_view j (newest j)) (record_block j (newest j)) (record_depths j (newest j)) (in_turn s d ks) ≡ in_turn s d (struck ks)
   unfolding Holds struck in_turn
-  taken_restores [] h e sized = absurd (omega (arith, e, taking_none s d j h))
+  taken_restores [] h e sized = absurd (omega (arith, taking_none s d j h))
   taken_restores (k ∷ ks) h e sized =
       let l = h.holds.0 in
-      let D : Depths = written s k.view k.block k.depths (in_turn s d ks) in
-      ap (λ (v : ℕ). written s v (record_block j (newest j)) (record_depths j (newest j)) D) l.view
-      ∙ ap (λ (b : Block). written s k.view b (record_depths j (newest j)) D) l.block
-      ∙ ap (λ (c : List ℕ). written s k.view k.block c D) l.depths
-      ∙ written_back s k.view k.block k.depths (in_turn s d ks) (sized ks)
+      rw (l.view, l.block, l.depths) (written_back s k.view k.block k.depths (in_turn s d ks) (sized ks))
 
   -- it lies within the picture
   pub taken_inside : (ks : List Standing) → Ledger s d j ks → taking_then s j 0 ≡ 0 → Inside s (record_block j (newest j))
   unfolding Holds
-  taken_inside [] h e = absurd (omega (arith, e, taking_none s d j h))
-  taken_inside (k ∷ ks) h e = let l = h.holds.0 in subst (Inside s) (sym l.block) l.inside
+  taken_inside [] h e = absurd (omega (arith, taking_none s d j h))
+  taken_inside (k ∷ ks) h e = let l = h.holds.0 in rw l.block l.inside

@@ -11,11 +11,11 @@ use mathlib.Core.List.{List, [], ◌∷◌}
 use mathlib.Core.Logic.{inl, inr}
 use lib.ListN.{length, take}
 use Rattle.model.specs.declared.Settings.{Settings}
-use Rattle.model.specs.declared.Opened.{Opened}
+use Rattle.model.specs.Replies.{OpenReply}
 use Rattle.model.specs.Marks.{mark_bytes}
 use Rattle.model.specs.Planes.{Pictures, Depths, Held, State, area, read_held}
 use Rattle.model.specs.Candidates.{filled}
-use Rattle.model.specs.Refusals.{number_of, journal_ok, room_ok, open_number, saving_then}
+use Rattle.model.specs.Refusals.{journal_ok, room_ok, open_number, saving_then}
 use Rattle.model.specs.Promises.{Sound, OpenPost}
 use Rattle.model.proofs.Refusals.{HeldOf, own_before, own_usual}
 use Rattle.run.specs.Calls.{AllBy}
@@ -88,7 +88,7 @@ go r ok (moved {to = to} {reference = reference} {j = j} t h' j' h k) p e =
     let pictures = next_pictures (λ (x : Plain). x.pictures) (plain_number r (move to reference j)) (plain_accepted r (move to reference j)) r reference f.number p refl in
     more r (move to reference j) f (done_journal f) (move_kept f refl) (go (plain_next r (move to reference j)) (done_ready f ok) k pictures (done_after f))
 
-module _ (s : Settings) (p : Pictures) (d : Depths) (h₀ h : Held) (j₀ j : List ℕ) (o : Opened) (post : OpenPost s p d h₀ h j₀ j o) (accepted : number_of o.refusal ≡ 0) {cs : List Call} {es : List Event} {last : State} (run : Run p (leaves o.settings d h) cs es last) where
+module _ (s : Settings) (p : Pictures) (d : Depths) (h₀ h : Held) (j₀ j : List ℕ) (o : OpenReply) (post : OpenPost s p d h₀ h j₀ j o) (accepted : o.number ≡ 0) {cs : List Call} {es : List Event} {last : State} (run : Run p (leaves o.settings d h) cs es last) where
   leaves_first : leaves o.settings d h ≡ plain_state (plain s p d)
   leaves_first = fill_leaves s s p d h₀ h j₀ j o post accepted
 
@@ -127,8 +127,8 @@ module _ (s : Settings) (p : Pictures) (d : Depths) (h₀ h : Held) (j₀ j : Li
 
 -- What a run leaves is what a fresh OPEN leaves that is passed what the record ends with: settings and reference of the last accepted MOVE, and the depths.
 pub halted_as_opened :
-    {r : Plain} {first last : State} {cs : List Call} {es : List Event} → RunPost r first cs es last → (h₀ h : Held) (j₀ j : List ℕ) (o : Opened) →
-    OpenPost (plain_end r cs).settings (plain_end r cs).pictures (plain_end r cs).depths h₀ h j₀ j o → number_of o.refusal ≡ 0 →
+    {r : Plain} {first last : State} {cs : List Call} {es : List Event} → RunPost r first cs es last → (h₀ h : Held) (j₀ j : List ℕ) (o : OpenReply) →
+    OpenPost (plain_end r cs).settings (plain_end r cs).pictures (plain_end r cs).depths h₀ h j₀ j o → o.number ≡ 0 →
     leaves o.settings (plain_end r cs).depths h ≡ last
 halted_as_opened run h₀ h j₀ j o post accepted = fill_leaves _ _ _ _ h₀ h j₀ j o post accepted ∙ sym run.session
 

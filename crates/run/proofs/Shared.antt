@@ -17,21 +17,20 @@ use mathlib.Core.List.{List, [], ◌∷◌}
 use mathlib.Core.Logic.{inl, inr}
 use native.Mathlib.Omega.{arith}
 use lib.ListN.{length, take}
-use lib.Dec.{eqb}
-use lib.IntN.{ℤ, pos, neg_ℤ, ◌+ℤ◌, ◌-ℤ◌, +ℤ_idl, +ℤ_comm, neg_ℤ-+ℤ, neg_ℤ-neg_ℤ}
+use lib.IntN.{pos, ◌-ℤ◌}
+use Rattle.std.proofs.lemmas.Int.{ints}
 use borrow.Author.Tests.{ltb-false, eq-eqb, ne_eqb}
 use Rattle.model.specs.declared.Settings.{Settings}
 use Rattle.model.specs.declared.Block.{Block}
 use Rattle.model.specs.declared.Candidate.{Candidate}
-use Rattle.model.specs.declared.Opened.{Opened}
+use Rattle.model.specs.Replies.{OpenReply}
 use Rattle.model.specs.Marks.{mark_bytes}
 use Rattle.model.specs.Planes.{Pictures, Depths, Held, State, area, read_held}
 use Rattle.model.specs.Candidates.{filled}
 use Rattle.model.specs.Journals.{emptied}
 use Rattle.model.specs.Blocks.{written, change_of}
-use Rattle.model.specs.Refusals.{number_of, journal_ok, room_ok, some_record, open_number, saving_then, taking_then}
+use Rattle.model.specs.Refusals.{journal_ok, room_ok, some_record, open_number, saving_then, taking_then}
 use Rattle.model.specs.Promises.{Sound, EightBit, OpenPost}
-use Rattle.model.proofs.Choice.{bool_cases}
 use Rattle.model.proofs.Refusals.{HeldOf, unless_true, unless_rest, rest_passed, own_before, own_usual}
 use Rattle.run.specs.Calls.{AllBy}
 use Rattle.run.specs.Run.{Event, leaves, Plain, plain, plain_state, OfMove, state_after}
@@ -100,13 +99,13 @@ call_usual r fs h take_back =
     (unless_either (SharedUsual take_back) (some_record r.journal) 12 0 (inr refl) (inl refl))
 call_usual r fs h (move to reference) =
     move_usual OfMove (λ n u. u) r.start.settings to reference r.journal
-    (λ t. absurd (omega (arith, h.ledger.words, ltb-false 0 (length r.journal) t)))
+    (λ t. absurd (omega (arith, ltb-false 0 (length r.journal) t)))
 
 -- ---- GET, SET and MOVE
 
 pub get_next : (r : SharedPlain) (v : ℕ) (b : Block) (c : Candidate) (x : List ℕ) → shared_next r (get v b c x) ≡ r
 unfolding shared_next accepted
-get_next r v b c x = bool_cases (eqb (shared_number r (get v b c x)) 0) (λ t. rw t) (λ t. rw t)
+get_next r v b c x = grind arith
 
 module _ (r : SharedPlain) (fs : List Found) (h : Between r fs) where
   get_between : (v : ℕ) (b : Block) (c : Candidate) (x : List ℕ) (e : Event) → Between (shared_next r (get v b c x)) (stack_after fs (session r) (get v b c x) e)
@@ -150,11 +149,6 @@ module _ (r : SharedPlain) (fs : List Found) (h : Between r fs) where
 
 -- ---- TAKE BACK
 
--- a change the other way
-negated : (a b : ℤ) → b -ℤ a ≡ pos 0 -ℤ (a -ℤ b)
-negated a b =
-    +ℤ_comm b (neg_ℤ a) ∙ ap (λ (x : ℤ). neg_ℤ a +ℤ x) (sym (neg_ℤ-neg_ℤ b)) ∙ sym (neg_ℤ-+ℤ a (neg_ℤ b)) ∙ sym (+ℤ_idl (neg_ℤ (a -ℤ b)))
-
 -- the change, where the depths are written that make them e
 change_of_lem : (r : Plain) (v : ℕ) (b : Block) (c : List ℕ) {e : Depths} → written r.settings v b c r.depths ≡ e → change_of r.settings r.pictures r.depths v b c ≡ pos (plain_total (plain r.settings r.pictures e)) -ℤ pos (plain_total r)
 unfolding change_of
@@ -188,7 +182,7 @@ module _ (start : Plain) (j : List ℕ) where
         z,
         (
           a.after z ∙ sym q.0.0,
-          a.change z ∙ negated (pos (plain_total (with_standing start (k ∷ ks)))) (pos (plain_total (with_standing start ks))) ∙ ap (λ (x : ℤ). pos 0 -ℤ x) (sym q.0.1),
+          omega (arith, ints, a.change z, q.0.1),
         ),
       )
 
@@ -300,7 +294,7 @@ posted e i f =
     rw (e, i)
     (record { session = f.state; journal = f.journal; events = f.events; kept = f.kept; restored = f.restored; usual = f.usual })
 
-module _ (s : Settings) (p : Pictures) (d : Depths) (h₀ h : Held) (j₀ j : List ℕ) (o : Opened) (post : OpenPost s p d h₀ h j₀ j o) (accepted : number_of o.refusal ≡ 0) {cs : List SharedCall} {es : List Event} {last : State} {end : List ℕ} (run : SharedRun p (leaves o.settings d h) j cs es last end) where
+module _ (s : Settings) (p : Pictures) (d : Depths) (h₀ h : Held) (j₀ j : List ℕ) (o : OpenReply) (post : OpenPost s p d h₀ h j₀ j o) (accepted : o.number ≡ 0) {cs : List SharedCall} {es : List Event} {last : State} {end : List ℕ} (run : SharedRun p (leaves o.settings d h) j cs es last end) where
   ready_first : Ready (plain s p d)
   ready_first = fill_ready s s p d h₀ h j₀ j o post accepted
 
@@ -336,7 +330,7 @@ module _ (s : Settings) (p : Pictures) (d : Depths) (h₀ h : Held) (j₀ j : Li
   unfolding in_turn
   kept_run further =
       let f = from_first in
-      let words = subst (λ (x : List ℕ). 0 < length x) (sym f.journal) f.between.ledger.words in
+      let words = rw (← f.journal) at f.between.ledger.words in
       posted f.state refl
       (from_empty (stands_as ends) shared_ready f.between.ledger.eight_bit end words further f.state refl)
 
@@ -362,8 +356,8 @@ module _ (s : Settings) (p : Pictures) (d : Depths) (h₀ h : Held) (j₀ j : Li
 -- What a run leaves is what a fresh OPEN leaves that is passed what the record ends with: settings and reference of the last accepted MOVE, and the depths standing.
 pub shared_as_opened :
     {r : SharedPlain} {first last : State} {j₁ end : List ℕ} {cs : List SharedCall} {es : List Event} → SharedPost r first j₁ cs es last end →
-    (h₀ h : Held) (j₀ j : List ℕ) (o : Opened) →
-    OpenPost (shared_end r cs).start.settings (shared_end r cs).start.pictures (stands_as (shared_end r cs)).depths h₀ h j₀ j o → number_of o.refusal ≡ 0 →
+    (h₀ h : Held) (j₀ j : List ℕ) (o : OpenReply) →
+    OpenPost (shared_end r cs).start.settings (shared_end r cs).start.pictures (stands_as (shared_end r cs)).depths h₀ h j₀ j o → o.number ≡ 0 →
     leaves o.settings (stands_as (shared_end r cs)).depths h ≡ last
 shared_as_opened run h₀ h j₀ j o post accepted = fill_leaves _ _ _ _ h₀ h j₀ j o post accepted ∙ sym run.session
 

@@ -6,24 +6,24 @@
 --     limit_fresh                            the limits of a fresh drawing, entry by entry
 --     local_written                          a written block changes no more than document 01 allows
 use Prim.Native.Nat.{ℕ, ◌*◌, ◌<◌, ◌≤◌}
-use mathlib.Core.Path.{◌≡◌, refl, ap, sym, ◌∙◌}
+use mathlib.Core.Path.{◌≡◌, refl, sym, ◌∙◌}
 use mathlib.Core.Bool.{Bool, true, false, and-true}
 use mathlib.Core.List.{List}
+use native.Mathlib.Omega.{arith}
 use lib.ListN.{length, get_or}
-use lib.IntN.{ℤ, pos}
+use lib.IntN.{pos}
 use borrow.Author.Tests.{eq-eqb, lt-ltb}
 use Rattle.model.specs.declared.Settings.{Settings}
 use Rattle.model.specs.declared.Block.{Block}
 use Rattle.model.specs.Lists.{entry_at}
 use Rattle.model.specs.Views.{is_right}
 use Rattle.model.specs.Marks.{mark_bytes}
-use Rattle.model.specs.Planes.{Pictures, Depths, View, Held, State, area, with_total, with_seat, with_reference, depths_of}
+use Rattle.model.specs.Planes.{Pictures, Depths, Held, State, area, with_total, with_seat, with_reference, depths_of}
 use Rattle.model.specs.Fresh.{fresh_row, fresh_view, shown_at, fresh_sample, fresh_combined, fresh, fresh_total}
 use Rattle.model.specs.Blocks.{in_block, written, change_of}
 use Rattle.model.specs.Span.{view_place, span_has, limit_moves}
 use Rattle.model.specs.Refusals.{unless, size_ok, planes_sized, pictures_sized, tables_ok, words_ok, picture_ok, pictures_ok, common_then, open_number}
 use Rattle.model.specs.Promises.{Sound}
-use Rattle.model.proofs.Choice.{bool_cases, and_left, and_right}
 use Rattle.model.proofs.Lists.{get_or_row, get_or-list_of}
 use Rattle.model.proofs.Fresh.{DepthsSized, fresh_total_lem, fresh_total_total, row_fresh_samples, row_fresh_fronts, row_fresh_limits, mark_fresh, row_fresh_combined, length-fresh_samples, length-fresh_fronts, length-fresh_limits, length-fresh_marks, length-fresh_combined, view_fresh}
 use Rattle.model.proofs.Written.{written_total, written_out}
@@ -138,8 +138,8 @@ module _ (r : Plain) (ok : Ready r) where
     pub ready_move : (t : ℕ) → open_number (with_seat (with_total s t) to) (with_reference p reference) d (fresh s p d) j ≡ move_number s to reference j
     unfolding common_then size_ok planes_sized pictures_sized tables_ok pictures_ok move_number
     ready_move t =
-        let left = and_left (picture_ok p.left) _ ok.samples in
-        let right = and_left (picture_ok p.right) (picture_ok p.reference) (and_right (picture_ok p.left) _ ok.samples) in
+        let left : picture_ok p.left ≡ true = grind arith in
+        let right : picture_ok p.right ≡ true = grind arith in
         rw (size_yes s ok.size, eq-eqb _ _ ok.pictures.left, eq-eqb _ _ ok.pictures.right, depths_yes (area s) d ok.depths, held_yes (area s) (mark_bytes s.w * s.h) (fresh s p d) (held_of s p d ok.depths), left, right, and-true)
 
     pub ready_moved : move_number s to reference j ≡ 0 → Ready (plain (with_seat s to) (with_reference p reference) d)
@@ -151,21 +151,16 @@ module _ (s : Settings) (p : Pictures) (d : Depths) (z : DepthsSized s d) (r : B
   shown_fresh : shown_in s.w (fresh_view s p d r) y x ≡ shown_at (fresh_row s p d r y) x
   unfolding shown_in
   shown_fresh =
-      let a : entry_at (fresh_view s p d r).samples s.w y x 0 ≡ get_or (fresh_row s p d r y).samples x 0 =
-      sym (get_or_row 0 (fresh_view s p d r).samples s.w y x k) ∙ ap (λ (l : List ℕ). get_or l x 0) (row_fresh_samples s p d z r y h) in
-      let f : entry_at (fresh_view s p d r).fronts s.w y x 0 ≡ get_or (fresh_row s p d r y).fronts x 0 =
-      sym (get_or_row 0 (fresh_view s p d r).fronts s.w y x k) ∙ ap (λ (l : List ℕ). get_or l x 0) (row_fresh_fronts s p d z r y h) in
-      let m = mark_fresh s p d z r y x h k in
-      rw (a, f, m)
+      let a = rw (row_fresh_samples s p d z r y h) at (get_or_row 0 (fresh_view s p d r).samples s.w y x k) in
+      let f = rw (row_fresh_fronts s p d z r y h) at (get_or_row 0 (fresh_view s p d r).fronts s.w y x k) in
+      rw (← a, ← f, mark_fresh s p d z r y x h k)
 
   pub limit_fresh : limit_in s.w (fresh_view s p d r) y x ≡ get_or (fresh_row s p d r y).limits x (pos 0)
-  limit_fresh =
-      sym (get_or_row (pos 0) (fresh_view s p d r).limits s.w y x k) ∙ ap (λ (l : List ℤ). get_or l x (pos 0)) (row_fresh_limits s p d z r y h)
+  limit_fresh = sym (rw (row_fresh_limits s p d z r y h) at (get_or_row (pos 0) (fresh_view s p d r).limits s.w y x k))
 
 combined_fresh : (s : Settings) (p : Pictures) (d : Depths) (y x : ℕ) → y < s.h → x < s.w → entry_at (fresh_combined s p d) s.w y x 0 ≡ fresh_sample s p d y x
 combined_fresh s p d y x h k =
-    sym (get_or_row 0 (fresh_combined s p d) s.w y x k) ∙ ap (λ (l : List ℕ). get_or l x 0) (row_fresh_combined s p d y h)
-    ∙ get_or-list_of 0 (fresh_sample s p d y) s.w x k
+    sym (rw (row_fresh_combined s p d y h) at (get_or_row 0 (fresh_combined s p d) s.w y x k)) ∙ get_or-list_of 0 (fresh_sample s p d y) s.w x k
 
 -- ---- a SET of a block whose columns lie in the picture
 
@@ -178,8 +173,7 @@ module _ (s : Settings) (p : Pictures) (d : Depths) (sized : DepthsSized s d) (v
 
   depths_out : (r : Bool) (i : ℕ) → in_block s.w b i ≡ false → get_or (depths_of after r) i 0 ≡ get_or (depths_of d r) i 0
   unfolding written
-  depths_out true i e = bool_cases (is_right v) (λ q. rw q (written_out s.w b c d.right i e)) (λ q. rw q)
-  depths_out false i e = bool_cases (is_right v) (λ q. rw q) (λ q. rw q (written_out s.w b c d.left i e))
+  depths_out r i e = grind (arith, written_out s.w b c d.right i e, written_out s.w b c d.left i e)
 
   -- the other view's depths and held planes
   left_stays : is_right v ≡ true → (after.left ≡ d.left) × ((fresh s p after).left ≡ (fresh s p d).left)
@@ -197,14 +191,12 @@ module _ (s : Settings) (p : Pictures) (d : Depths) (sized : DepthsSized s d) (v
       record {
         depths = depths_out;
         shown = λ r y x h k e.
-            ap (λ (q : View). shown_in s.w q y x) (view_fresh s p after r) ∙ shown_fresh s p after sized_after r y x h k
-            ∙ shown_stays s p d v b c sized columns y x h k e r
-            ∙ sym (ap (λ (q : View). shown_in s.w q y x) (view_fresh s p d r) ∙ shown_fresh s p d sized r y x h k);
-        combined = λ y x h k e. combined_fresh s p after y x h k ∙ sample_stays s p d v b c sized columns y x h k e ∙ sym (combined_fresh s p d y x h k);
+            rw (view_fresh s p after r, shown_fresh s p after sized_after r y x h k, view_fresh s p d r, shown_fresh s p d sized r y x h k)
+            (shown_stays s p d v b c sized columns y x h k e r);
+        combined = λ y x h k e. rw (combined_fresh s p after y x h k, combined_fresh s p d y x h k) (sample_stays s p d v b c sized columns y x h k e);
         limits = λ y x h k e.
-            ap (λ (q : View). limit_in s.w q y x) (view_fresh s p after (is_right v)) ∙ limit_fresh s p after sized_after (is_right v) y x h k
-            ∙ limits_stay s p d v b c sized columns y x h k e
-            ∙ sym (ap (λ (q : View). limit_in s.w q y x) (view_fresh s p d (is_right v)) ∙ limit_fresh s p d sized (is_right v) y x h k);
+            rw (view_fresh s p after (is_right v), limit_fresh s p after sized_after (is_right v) y x h k, view_fresh s p d (is_right v), limit_fresh s p d sized (is_right v) y x h k)
+            (limits_stay s p d v b c sized columns y x h k e);
         left = left_stays;
         right = right_stays;
       }

@@ -5,10 +5,7 @@ use Rattle.model.specs.declared.Settings.{Settings}
 use Rattle.model.specs.declared.Block.{Block}
 use Rattle.model.specs.declared.Candidate.{Candidate}
 use Rattle.model.specs.declared.Pixel.{Pixel}
-use Rattle.model.specs.declared.Refusal.{Refusal}
-use Rattle.model.specs.declared.Opened.{Opened}
-use Rattle.model.specs.declared.Trial.{Trial}
-use Rattle.model.specs.declared.Edited.{Edited}
+use Rattle.model.specs.Replies.{OpenReply, TrialReply, EditReply}
 use Rattle.model.specs.Lists.{row_of, entry_at}
 use Rattle.model.specs.Row.{pixel}
 use Rattle.model.specs.Views.{is_right}
@@ -19,7 +16,7 @@ use Rattle.model.specs.Candidates.{filled}
 use Rattle.model.specs.Blocks.{in_rows, in_block, written, old_depths, change_of}
 use Rattle.model.specs.Journals.{saved, emptied}
 use Rattle.model.specs.Span.{span_has, limit_moves}
-use Rattle.model.specs.Refusals.{number_of, unless, tables_ok, share_ok, tear_ok, words_ok, picture_ok, own_then, saving_then}
+use Rattle.model.specs.Refusals.{unless, tables_ok, share_ok, tear_ok, words_ok, picture_ok, own_then, saving_then}
 use Rattle.model.specs.Promises.{GetPost, SetPost, MovePost}
 use Rattle.run.specs.Calls.{end_by, events_by, AllBy, AllOf}
 
@@ -36,8 +33,8 @@ pub record Reply : Type 0 where
   pub change : ℤ
 
 -- a reply, from what the entry answers
-abbrev pub reply_of : Refusal → ℤ → Reply
-reply_of r change = record { number = number_of r; change = change }
+abbrev pub reply_of : ℕ → ℤ → Reply
+reply_of number change = record { number = number; change = change }
 
 -- the session that a call with these settings answered and these planes leaves
 abbrev pub leaves : Settings → Depths → Held → State
@@ -58,20 +55,20 @@ pictures_after n p reference = cond (eqb n 0) (with_reference p reference) p
 pub data Run : Pictures → State → List Call → List Event → State → Type 0 where
   halted : {p : Pictures} {st : State} → Run p st [] [] st
   got :
-      {p : Pictures} {st last : State} {v : ℕ} {b : Block} {c : Candidate} {x : List ℕ} {cs : List Call} {es : List Event} (r : Trial) →
+      {p : Pictures} {st last : State} {v : ℕ} {b : Block} {c : Candidate} {x : List ℕ} {cs : List Call} {es : List Event} (r : TrialReply) →
       GetPost st.settings p st.depths st.held v b c x r →
       Run p st cs es last →
-      Run p st (get v b c x ∷ cs) (record { reply = reply_of r.refusal r.change; after = st; journal = [] } ∷ es) last
+      Run p st (get v b c x ∷ cs) (record { reply = reply_of r.number r.change; after = st; journal = [] } ∷ es) last
   wrote :
-      {p : Pictures} {st last : State} {v : ℕ} {b : Block} {c : Candidate} {x j : List ℕ} {cs : List Call} {es : List Event} (r : Edited) (d : Depths) (h : Held) (k : List ℕ) →
+      {p : Pictures} {st last : State} {v : ℕ} {b : Block} {c : Candidate} {x j : List ℕ} {cs : List Call} {es : List Event} (r : EditReply) (d : Depths) (h : Held) (k : List ℕ) →
       SetPost st.settings p st.depths d st.held h j k v b c x r →
       Run p (leaves r.settings d h) cs es last →
-      Run p st (set v b c x j ∷ cs) (record { reply = reply_of r.refusal r.change; after = leaves r.settings d h; journal = k } ∷ es) last
+      Run p st (set v b c x j ∷ cs) (record { reply = reply_of r.number r.change; after = leaves r.settings d h; journal = k } ∷ es) last
   moved :
-      {p : Pictures} {st last : State} {to : Settings} {reference j : List ℕ} {cs : List Call} {es : List Event} (r : Opened) (h : Held) (k : List ℕ) →
+      {p : Pictures} {st last : State} {to : Settings} {reference j : List ℕ} {cs : List Call} {es : List Event} (r : OpenReply) (h : Held) (k : List ℕ) →
       MovePost st.settings to (with_reference p reference) st.depths st.held h j k r →
-      Run (pictures_after (number_of r.refusal) p reference) (leaves r.settings st.depths h) cs es last →
-      Run p st (move to reference j ∷ cs) (record { reply = reply_of r.refusal (pos 0); after = leaves r.settings st.depths h; journal = k } ∷ es) last
+      Run (pictures_after r.number p reference) (leaves r.settings st.depths h) cs es last →
+      Run p st (move to reference j ∷ cs) (record { reply = reply_of r.number (pos 0); after = leaves r.settings st.depths h; journal = k } ∷ es) last
 
 -- ---- The plain record: two depth planes, fed what each call brings (a SET and a MOVE bring a journal), no answer and nothing held; and what they are drawn with:
 -- settings and pictures of OPEN, and from an accepted MOVE on its settings and the textures with its reference.

@@ -4,15 +4,13 @@ use Rattle.std.specs.Prelude.{ℕ, ◌≡◌, cond, List, [], ◌∷◌, ◌⊎�
 use Rattle.model.specs.declared.Settings.{Settings}
 use Rattle.model.specs.declared.Block.{Block}
 use Rattle.model.specs.declared.Candidate.{Candidate}
-use Rattle.model.specs.declared.Opened.{Opened}
-use Rattle.model.specs.declared.Trial.{Trial}
-use Rattle.model.specs.declared.Edited.{Edited}
+use Rattle.model.specs.Replies.{OpenReply, TrialReply, EditReply}
 use Rattle.model.specs.Planes.{Pictures, Depths, Held, State, with_seat, with_reference}
 use Rattle.model.specs.Fresh.{fresh_total}
 use Rattle.model.specs.Candidates.{filled}
 use Rattle.model.specs.Blocks.{written, old_depths, change_of}
 use Rattle.model.specs.Journals.{newest, record_view, record_block, saved, taken_back, emptied}
-use Rattle.model.specs.Refusals.{number_of, own_then, saving_then, taking_then}
+use Rattle.model.specs.Refusals.{own_then, saving_then, taking_then}
 use Rattle.model.specs.Promises.{GetPost, SetPost, TakeBackPost, MovePost}
 use Rattle.run.specs.Calls.{end_by, events_by, AllBy, AllOf}
 use Rattle.run.specs.Run.{Reply, Event, reply_of, leaves, pictures_after, Plain, plain, move_number, plain_answer, plain_state, Edits, Moves, OfCall, OfMove}
@@ -28,25 +26,25 @@ pub data SharedCall : Type 0 where
 pub data SharedRun : Pictures → State → List ℕ → List SharedCall → List Event → State → List ℕ → Type 0 where
   halted : {p : Pictures} {st : State} {j : List ℕ} → SharedRun p st j [] [] st j
   got :
-      {p : Pictures} {st last : State} {j end : List ℕ} {v : ℕ} {b : Block} {c : Candidate} {x : List ℕ} {cs : List SharedCall} {es : List Event} (r : Trial) →
+      {p : Pictures} {st last : State} {j end : List ℕ} {v : ℕ} {b : Block} {c : Candidate} {x : List ℕ} {cs : List SharedCall} {es : List Event} (r : TrialReply) →
       GetPost st.settings p st.depths st.held v b c x r →
       SharedRun p st j cs es last end →
-      SharedRun p st j (get v b c x ∷ cs) (record { reply = reply_of r.refusal r.change; after = st; journal = j } ∷ es) last end
+      SharedRun p st j (get v b c x ∷ cs) (record { reply = reply_of r.number r.change; after = st; journal = j } ∷ es) last end
   wrote :
-      {p : Pictures} {st last : State} {j end : List ℕ} {v : ℕ} {b : Block} {c : Candidate} {x : List ℕ} {cs : List SharedCall} {es : List Event} (r : Edited) (d : Depths) (h : Held) (k : List ℕ) →
+      {p : Pictures} {st last : State} {j end : List ℕ} {v : ℕ} {b : Block} {c : Candidate} {x : List ℕ} {cs : List SharedCall} {es : List Event} (r : EditReply) (d : Depths) (h : Held) (k : List ℕ) →
       SetPost st.settings p st.depths d st.held h j k v b c x r →
       SharedRun p (leaves r.settings d h) k cs es last end →
-      SharedRun p st j (set v b c x ∷ cs) (record { reply = reply_of r.refusal r.change; after = leaves r.settings d h; journal = k } ∷ es) last end
+      SharedRun p st j (set v b c x ∷ cs) (record { reply = reply_of r.number r.change; after = leaves r.settings d h; journal = k } ∷ es) last end
   took :
-      {p : Pictures} {st last : State} {j end : List ℕ} {cs : List SharedCall} {es : List Event} (r : Edited) (d : Depths) (h : Held) (k : List ℕ) →
+      {p : Pictures} {st last : State} {j end : List ℕ} {cs : List SharedCall} {es : List Event} (r : EditReply) (d : Depths) (h : Held) (k : List ℕ) →
       TakeBackPost st.settings p st.depths d st.held h j k r →
       SharedRun p (leaves r.settings d h) k cs es last end →
-      SharedRun p st j (take_back ∷ cs) (record { reply = reply_of r.refusal r.change; after = leaves r.settings d h; journal = k } ∷ es) last end
+      SharedRun p st j (take_back ∷ cs) (record { reply = reply_of r.number r.change; after = leaves r.settings d h; journal = k } ∷ es) last end
   moved :
-      {p : Pictures} {st last : State} {j end : List ℕ} {to : Settings} {reference : List ℕ} {cs : List SharedCall} {es : List Event} (r : Opened) (h : Held) (k : List ℕ) →
+      {p : Pictures} {st last : State} {j end : List ℕ} {to : Settings} {reference : List ℕ} {cs : List SharedCall} {es : List Event} (r : OpenReply) (h : Held) (k : List ℕ) →
       MovePost st.settings to (with_reference p reference) st.depths st.held h j k r →
-      SharedRun (pictures_after (number_of r.refusal) p reference) (leaves r.settings st.depths h) k cs es last end →
-      SharedRun p st j (move to reference ∷ cs) (record { reply = reply_of r.refusal (pos 0); after = leaves r.settings st.depths h; journal = k } ∷ es) last end
+      SharedRun (pictures_after r.number p reference) (leaves r.settings st.depths h) k cs es last end →
+      SharedRun p st j (move to reference ∷ cs) (record { reply = reply_of r.number (pos 0); after = leaves r.settings st.depths h; journal = k } ∷ es) last end
 
 -- ---- The plain record: what OPEN or the last accepted MOVE drew, the SETs standing since, newest first, and its own copy of the journal.
 

@@ -1,16 +1,16 @@
 -- Rows drawn afresh, at the front of longer rows, are rows of the fresh drawing.
---     drawn_part, part_in     a row lent as planes of one row is drawn as the planes' row
+--     drawn_part              a row lent as planes of one row is drawn as the planes' row
 --     agrees_fresh            a view compared with its drawn row is compared with the fresh view
 --     shown_fresh             the combined sample of two drawn rows is the fresh one
 --     all_fresh               so the comparison at a position is that of the fresh drawing
 --     seen_at, error_is       what is found at a position
-use Prim.Native.Nat.{ℕ, ◌+◌, ◌-◌, ◌*◌, ◌/◌, ◌%◌, ◌^◌, ◌≤◌, ◌<◌}
+use Prim.Native.Nat.{ℕ, ◌+◌, ◌-◌, ◌*◌, ◌/◌, ◌%◌, ◌^◌, ◌<◌}
 use mathlib.Core.Path.{◌≡◌, sym, ap, ◌∙◌}
 use mathlib.Core.Bool.{Bool, true, false}
 use mathlib.Core.List.{List}
 use native.Mathlib.Nat.{zero-mul}
 use native.Mathlib.Omega.{arith}
-use lib.ListN.{length, get_or, take, drop}
+use lib.ListN.{get_or, take, drop}
 use lib.Seq.{get_or-take, take-take}
 use lib.IntN.{ℤ, pos}
 use Rattle.model.specs.declared.Tear.{Tear}
@@ -26,8 +26,8 @@ use Rattle.model.proofs.Lists.{get_or_row, get_or-list_of}
 use Rattle.model.proofs.Fresh.{DepthsSized, row_fresh_samples, row_fresh_fronts, row_fresh_limits, row_fresh_marks, mark_fresh, row_fresh_combined}
 use Rattle.model.proofs.Totals.{read_same, error_at, shown_most}
 use Rattle.marks.specs.Puts.{held_pixel}
-use Rattle.planes.proofs.Splices.{part_row, part_length}
-use Rattle.draw.specs.Drawn.{PlanesIn, drawn_row}
+use Rattle.planes.proofs.Splices.{part_row}
+use Rattle.draw.specs.Drawn.{drawn_row}
 use Rattle.compare.specs.Agree.{agrees, all_agree}
 
 -- an entry of the front of a row
@@ -49,24 +49,6 @@ part_front p w y =
 pub drawn_part : (tear : Tear) (right : Bool) (t : List ℕ) (w : ℕ) (texture depths : List ℕ) (y : ℕ) → drawn_row tear right t w (take (y * w + w - y * w) (drop (y * w) texture)) (take (y * w + w - y * w) (drop (y * w) depths)) 0 ≡ drawn_row tear right t w texture depths y
 unfolding drawn_row
 drawn_part tear right t w texture depths y = rw (part_front texture w y, part_front depths w y)
-
--- rows with room for a row of w columns
-pub record RoomFor (w : ℕ) (v : View) : Type 0 where
-  pub samples_in : w ≤ length v.samples
-  pub fronts_in : w ≤ length v.fronts
-  pub limits_in : w ≤ length v.limits
-  pub marks_in : mark_bytes w ≤ length v.marks
-
-pub part_in : (w y : ℕ) (texture depths : List ℕ) (v : View) → y * w + w ≤ length texture → y * w + w ≤ length depths → RoomFor w v → PlanesIn w 0 (take (y * w + w - y * w) (drop (y * w) texture)) (take (y * w + w - y * w) (drop (y * w) depths)) v
-part_in w y texture depths v ht hd r =
-    record {
-      texture_in = omega (arith, part_length texture (y * w) w ht);
-      depths_in = omega (arith, part_length depths (y * w) w hd);
-      samples_in = omega (arith, r.samples_in);
-      fronts_in = omega (arith, r.fronts_in);
-      limits_in = omega (arith, r.limits_in);
-      marks_in = omega (arith, r.marks_in);
-    }
 
 -- the rows that are drawn of a view, from planes of a session
 abbrev pub DrawnIs : Settings → Pictures → Depths → Bool → ℕ → View → Type 0

@@ -1,4 +1,4 @@
 -- Why it holds: laws of the walk, by topic.
-pub mod Positions
+pub mod Tested
 pub mod Drawing
 pub mod Passed

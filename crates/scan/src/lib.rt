@@ -6,21 +6,24 @@ ghost use Rattle.model.specs.Planes.{pictures, depths, view, held, view_rows};
 ghost use Rattle.model.specs.Refusals.{check_number};
 ghost use Rattle.sums.specs.Squares.{Squares};
 ghost use Rattle.draw.specs.Drawn.{Table, drawn_row};
+ghost use Rattle.compare.specs.Agree.{drawn_planes};
 ghost use Rattle.scan.specs.Walks.{drawing_settings, Walked, verdict_of};
 
+use compare::{DrawnRow, HeldView};
 use model::{Report, Tear};
 
-// Where the first difference lies, if there is one.
-#[derive(Drop)]
-pub enum Place {
-    None,
-    At { row: u32, column: u32 },
+// A position of the picture.
+#[derive(Clone, Copy)]
+pub struct Place {
+    pub row: u32,
+    pub column: u32,
 }
 
-// What a walk over all positions finds: the place where it stopped, and the sum of the squared errors of the positions that it passed.
-#[derive(Drop)]
+// What a walk over all positions finds: the place of the first difference, if there is one, and the sum of the squared errors of the
+// positions that it passed.
+#[derive(Clone, Copy)]
 pub struct Found {
-    pub place: Place,
+    pub place: Option<Place>,
     pub sum: u64,
 }
 
@@ -28,20 +31,14 @@ pub struct Found {
 pub fn verdict(found: Found, total: u64) -> Report
     ensures { result ≡ verdict_of found.place found.sum total }
 {
-    let place = found.place;
-    match place {
-        Place::At { row, column } => Report::Difference { row, column },
-        Place::None => {
-            if total == found.sum {
-                Report::Sound
-            } else {
-                Report::Total
-            }
-        }
+    match found.place {
+        Some(Place { row, column }) => Report::Difference { row, column },
+        None if total == found.sum => Report::Sound,
+        None => Report::Total,
     }
 }
 
-// Draws row y of a view to the front of the rows that are lent.
+// Draws row y of a view.
 fn draw_front(
     tear: Tear,
     right: bool,
@@ -50,15 +47,11 @@ fn draw_front(
     y: usize,
     texture: &[u16],
     depths: &[u8],
-    samples: &mut [u16; 4096],
-    fronts: &mut [u8; 4096],
-    limits: &mut [i16; 4096],
-    marks: &mut [u8; 512],
+    row: &mut DrawnRow,
 )
     requires table { (Table table.now) × ((0 < w) × (w ≤ 4096)) }
     requires w_in_bounds { (y * w + w ≤ length texture.now) × (y * w + w ≤ length depths.now) }
-    ensures { view_rows w (view samples.new fronts.new limits.new marks.new) 0
-        ≡ drawn_row tear right table.now w texture.now depths.now y }
+    ensures { view_rows w (drawn_planes row.new) 0 ≡ drawn_row tear right table.now w texture.now depths.now y }
 {
     let mut flags = [0u8; 4096];
     let from = y * w;
@@ -71,10 +64,10 @@ fn draw_front(
         0,
         &texture[from..to],
         &depths[from..to],
-        samples,
-        fronts,
-        limits,
-        marks,
+        &mut row.samples,
+        &mut row.fronts,
+        &mut row.limits,
+        &mut row.marks,
         &mut flags[..w],
     );
 }
@@ -118,31 +111,25 @@ pub fn walk(
         (view rightSamples.now rightFronts.now rightLimits.now rightMarks.now)
         combined.now) result }
 {
-    let mut samples0 = [0u16; 4096];
-    let mut fronts0 = [0u8; 4096];
-    let mut limits0 = [0i16; 4096];
-    let mut marks0 = [0u8; 512];
-    let mut samples1 = [0u16; 4096];
-    let mut fronts1 = [0u8; 4096];
-    let mut limits1 = [0i16; 4096];
-    let mut marks1 = [0u8; 512];
-    let mut place = Place::None;
+    // The planes come one slice each, as C lends them; from here on they go by view.
+    let leftHeld = HeldView {
+        samples: leftSamples,
+        fronts: leftFronts,
+        limits: leftLimits,
+        marks: leftMarks,
+    };
+    let rightHeld = HeldView {
+        samples: rightSamples,
+        fronts: rightFronts,
+        limits: rightLimits,
+        marks: rightMarks,
+    };
+    let mut leftRow = DrawnRow::new();
+    let mut rightRow = DrawnRow::new();
+    let mut place = None;
     let mut sum = 0u64;
-    let mut y = 0;
-    'rows: while y < h {
-        draw_front(
-            tear,
-            false,
-            leftTable,
-            w,
-            y,
-            left,
-            leftDepths,
-            &mut samples0,
-            &mut fronts0,
-            &mut limits0,
-            &mut marks0,
-        );
+    'rows: for y in 0..h {
+        draw_front(tear, false, leftTable, w, y, left, leftDepths, &mut leftRow);
         draw_front(
             tear,
             true,
@@ -151,53 +138,23 @@ pub fn walk(
             y,
             right,
             rightDepths,
-            &mut samples1,
-            &mut fronts1,
-            &mut limits1,
-            &mut marks1,
+            &mut rightRow,
         );
-        let mut x = 0;
-        while x < w {
-            let shown = compare::shown_at(
-                share, tolerance, &samples0, &fronts0, &marks0, &samples1, &fronts1, &marks1, x,
-            );
+        for x in 0..w {
+            let shown = compare::shown_at(share, tolerance, &leftRow, &rightRow, x);
             if !compare::same_at(
-                w,
-                y,
-                x,
-                leftSamples,
-                leftFronts,
-                leftLimits,
-                leftMarks,
-                rightSamples,
-                rightFronts,
-                rightLimits,
-                rightMarks,
-                combined,
-                &samples0,
-                &fronts0,
-                &limits0,
-                &marks0,
-                &samples1,
-                &fronts1,
-                &limits1,
-                &marks1,
-                shown,
+                w, y, x, &leftHeld, &rightHeld, combined, &leftRow, &rightRow, shown,
             ) {
-                place = Place::At {
+                // Both are below 4,096: `try_from` would only add a way out that is never taken.
+                place = Some(Place {
                     row: y as u32,
                     column: x as u32,
-                };
+                });
                 break 'rows;
             }
-            sum += sums::square_error(
-                squares,
-                shown,
-                model::sample_in(reference, y * w + x),
-            ) as u64;
-            x += 1;
+            let wanted = model::sample_in(reference, y * w + x);
+            sum += u64::from(sums::square_error(squares, shown, wanted));
         }
-        y += 1;
     }
     Found { place, sum }
 }

@@ -3,8 +3,9 @@
 
 ghost use Rattle.model.specs.Planes as planes;
 ghost use Rattle.model.specs.Promises.{SetPost};
+ghost use Rattle.model.specs.Replies.{edit_reply};
 
-use model::{Block, Candidate, Edited, Settings};
+use model::{Block, Candidate, Edited, Refusal, Settings};
 use validate::{Lengths, ViewLengths};
 
 // The change of the total and the settings with the new total, or the first refusal that applies, which leaves everything as it was.
@@ -29,7 +30,7 @@ pub fn set(
     block: Block,
     candidate: Candidate,
     bytes: &[u8],
-) -> Edited
+) -> Result<Edited, Refusal>
     ensures { SetPost settings
         (planes.pictures left.now right.now reference.now)
         (planes.depths leftDepths.old rightDepths.old)
@@ -37,7 +38,7 @@ pub fn set(
         (planes.held (planes.view leftSamples.old leftFronts.old leftLimits.old leftMarks.old) (planes.view rightSamples.old rightFronts.old rightLimits.old rightMarks.old) combined.old)
         (planes.held (planes.view leftSamples.new leftFronts.new leftLimits.new leftMarks.new) (planes.view rightSamples.new rightFronts.new rightLimits.new rightMarks.new) combined.new)
         journal.old journal.new
-        view block candidate bytes.now result }
+        view block candidate bytes.now (edit_reply settings result) }
 {
     let lengths = Lengths {
         left: ViewLengths {
@@ -60,7 +61,7 @@ pub fn set(
         combined: combined.len(),
     };
     let tear = settings.tear;
-    let first = lists::set_refusal(
+    lists::set_refusal(
         settings.w,
         settings.h,
         &settings.left,
@@ -72,14 +73,7 @@ pub fn set(
         block,
         candidate,
         bytes.len(),
-    );
-    if model::number(first) != 0 {
-        return Edited {
-            refusal: first,
-            change: 0,
-            settings: settings,
-        };
-    }
+    )?;
     let decision = settle::settle_view(
         settings.w,
         settings.h,
@@ -108,14 +102,12 @@ pub fn set(
         block,
         candidate,
         bytes,
-    );
-    let mut next = settings;
-    next.total = decision.total;
-    let refusal = decision.refusal;
-    let change = decision.change;
-    Edited {
-        refusal: refusal,
-        change: change,
-        settings: next,
-    }
+    )?;
+    Ok(Edited {
+        change: decision.change,
+        settings: Settings {
+            total: decision.total,
+            ..settings
+        },
+    })
 }

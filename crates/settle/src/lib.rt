@@ -6,6 +6,7 @@ ghost use Rattle.model.specs.Planes as planes;
 ghost use Rattle.model.specs.Candidates.{filled};
 ghost use Rattle.model.specs.Blocks.{block_depths, old_depths};
 ghost use Rattle.model.specs.Refusals.{table_ok, candidate_then, saving_then, early_number};
+ghost use Rattle.judge.specs.Judged.{verdict};
 ghost use Rattle.strips.specs.Strips.{around, own};
 ghost use Rattle.trial.specs.Trial.{Sized, Fits};
 ghost use Rattle.commit.specs.Commit as commit;
@@ -14,7 +15,8 @@ ghost use Rattle.validate.specs.Numbers.{sides};
 ghost use Rattle.settled.specs.Settled.{OwnSettled, Settled, JournalSaved};
 
 use judge::Decision;
-use model::{Block, Candidate, Tear};
+use model::{Block, Candidate, Refusal, Tear};
+use strips::{Counterpart, Source};
 
 // Tries the candidate in one view and, where the total stays in range and the journal has room, saves what stands in the block and writes it: texture, depths,
 // samples, fronts, limits and marks are the view's own, and samples2, fronts2 and marks2 the other view's.
@@ -43,7 +45,7 @@ fn settle(
     combined: &mut [u16],
     reference: &[u16],
     journal: &mut [u32],
-) -> Decision
+) -> Result<Decision, Refusal>
     requires table_value { (table_ok table.now ≡ true) × (share ≤ 64) }
     requires sized { Sized w h (around right share tolerance samples2.now fronts2.now marks2.now combined.old reference.now) (own tear table.now texture.now depths.old limits.old) }
     requires sized_2 { commit.Sized w h texture.now depths.old (planes.view samples.old fronts.old limits.old marks.old) }
@@ -53,8 +55,8 @@ fn settle(
         depths.old depths.new
         (planes.view samples.old fronts.old limits.old marks.old)
         (planes.view samples.new fronts.new limits.new marks.new)
-        combined.old combined.new result)
-        × (JournalSaved view block (block_depths w block depths.old) journal.old journal.new result) }
+        combined.old combined.new (verdict total result))
+        × (JournalSaved view block (block_depths w block depths.old) journal.old journal.new (verdict total result)) }
 {
     let columns = w as usize;
     let rows = h as usize;
@@ -62,24 +64,36 @@ fn settle(
     let row = block.row as usize;
     let width = block.width as usize;
     let height = block.height as usize;
+    let v = Source {
+        tear,
+        table,
+        texture,
+        depths: &*depths,
+        limits: &*limits,
+    };
+    let o = Counterpart {
+        right,
+        share,
+        tolerance,
+        samples: samples2,
+        fronts: fronts2,
+        marks: marks2,
+        combined: &*combined,
+        reference,
+    };
     let sums = trial::trial_candidate(
-        tear, right, table, share, tolerance, columns, rows, column, row, width, height, texture,
-        depths, limits, candidate, bytes, samples2, fronts2, marks2, combined, reference,
+        v, o, columns, rows, column, row, width, height, candidate, bytes,
     );
     let most = judge::most_total(w, h);
     let late = chain::saving(w, h, block, journal);
-    let decision = judge::judge_then(total, sums.old, sums.new, most, late);
-    let refusal = decision.refusal;
-    if model::number(refusal) != 0 {
-        return decision;
-    }
+    let decision = judge::judge_then(total, sums.old, sums.new, most, late)?;
     journal::save(view, block, columns, depths, journal);
     blocks::set_block(
         tear, right, table, share, tolerance, columns, rows, column, row, width, height, texture,
         candidate, bytes, depths, samples, fronts, limits, marks, samples2, fronts2, marks2,
         combined,
     );
-    decision
+    Ok(decision)
 }
 
 // Settles the candidate in the view that the call names.
@@ -111,7 +125,7 @@ pub fn settle_view<'a>(
     block: Block,
     candidate: Candidate,
     bytes: &[u8],
-) -> Decision
+) -> Result<Decision, Refusal>
     requires { early_number (settings_of w h leftTable.now rightTable.now share tolerance tear total)
         (planes.pictures left.now right.now reference.now)
         (planes.depths leftDepths.old rightDepths.old)
@@ -123,8 +137,8 @@ pub fn settle_view<'a>(
         (planes.depths leftDepths.new rightDepths.new)
         (held_of leftSamples.old leftFronts.old leftLimits.old leftMarks.old rightSamples.old rightFronts.old rightLimits.old rightMarks.old combined.old)
         (held_of leftSamples.new leftFronts.new leftLimits.new leftMarks.new rightSamples.new rightFronts.new rightLimits.new rightMarks.new combined.new)
-        view block (filled block candidate bytes.now) (saving_then (sides w h) block journal.old 0) result)
-        × (JournalSaved view block (old_depths (sides w h) view block (planes.depths leftDepths.old rightDepths.old)) journal.old journal.new result) }
+        view block (filled block candidate bytes.now) (saving_then (sides w h) block journal.old 0) (verdict total result))
+        × (JournalSaved view block (old_depths (sides w h) view block (planes.depths leftDepths.old rightDepths.old)) journal.old journal.new (verdict total result)) }
 {
     if view == 1 {
         return settle(

@@ -18,7 +18,7 @@ use Rattle.model.specs.Views.{is_right}
 use Rattle.model.specs.Planes.{Pictures, Depths, View, Held, with_total, table_of, texture_of, depths_of, view_of, with_view}
 use Rattle.model.specs.Refusals.{number_of, table_ok, within, journal_ok, room_ok, saving_then}
 use Rattle.model.specs.Promises.{EightBit, EditPost}
-use Rattle.model.proofs.Refusals.{unless_true, unless_rest}
+use Rattle.model.proofs.Refusals.{some_number, unless_true, unless_rest}
 use Rattle.validate.specs.Numbers.{sides}
 use Rattle.journal.specs.Words.{InPlane}
 use Rattle.strips.specs.Strips.{Around, Own}
@@ -28,8 +28,7 @@ use Rattle.trial.proofs.Sound.{around_of, own_of}
 use Rattle.commit.specs.Commit as commit
 use Rattle.combine.specs.Combine.{OtherSized, BlockIn}
 use Rattle.combine.proofs.Session.{own_sized, with_depths, set_depths, set_updated, set_fresh, set_read}
-use Rattle.judge.specs.declared.Decision.{Decision}
-use Rattle.judge.specs.Judged.{Judged}
+use Rattle.judge.specs.Judged.{Verdict, Judged}
 use Rattle.decide.proofs.Ways.{Passed, tried, sum_change, sum_range}
 use Rattle.settled.specs.Settled.{OwnSettled, Settled}
 
@@ -41,7 +40,7 @@ set_requires sized fits = (
 )
 
 -- what saving asks for, once the call is accepted
-pub saved_requires : {w h : ℕ} {o : Around} {v : Own} {b : Block} {c : List ℕ} (j : List ℕ) {total old new most late : ℕ} {r : Decision} → trial.Sized w h o v → Fits w h b c → late ≡ saving_then (sides w h) b j 0 → Judged total old new most late r → number_of r.refusal ≡ 0 → InPlane w b v.depths × (room_ok b j ≡ true)
+pub saved_requires : {w h : ℕ} {o : Around} {v : Own} {b : Block} {c : List ℕ} (j : List ℕ) {total old new most late : ℕ} {r : Verdict} → trial.Sized w h o v → Fits w h b c → late ≡ saving_then (sides w h) b j 0 → Judged total old new most late r → r.number ≡ 0 → InPlane w b v.depths × (room_ok b j ≡ true)
 unfolding saving_then
 saved_requires {w} {h} {v = v} {b = b} j {total} {old} {new} {most} {late} sized fits e judged z =
     let none : saving_then (sides w h) b j 0 ≡ 0 = sym e ∙ unless_rest (within (pos total +ℤ sub_ℕ new old) most) 7 late (sym judged.number ∙ z) in (
@@ -74,7 +73,7 @@ module _ (s : Settings) (p : Pictures) (d₀ : Depths) (h₀ : Held) (b : Block)
 
   -- settled in the planes of one view
   pub settled_by :
-      (v rest : ℕ) (r : Bool) → is_right v ≡ r → (d' : List ℕ) (v' : View) (c' : List ℕ) (q : Decision) →
+      (v rest : ℕ) (r : Bool) → is_right v ≡ r → (d' : List ℕ) (v' : View) (c' : List ℕ) (q : Verdict) →
       OwnSettled s.tear r (table_of s r) s.share s.tolerance s.total s.w s.h b rest (texture_of p r) c (view_of h₀ (not r)).samples (view_of h₀ (not r)).fronts (view_of h₀ (not r)).marks p.reference (depths_of d₀ r) d' (view_of h₀ r) v' h₀.combined c' q →
       Settled s p d₀ (with_depths r d₀ d') h₀ (with_view r h₀ v' c') v b c rest q
   settled_by v rest r side d' v' c' q o =
@@ -95,8 +94,9 @@ module _ (s : Settings) (p : Pictures) (d₀ : Depths) (h₀ : Held) (b : Block)
 
 module _ (s : Settings) (p : Pictures) (d₀ : Depths) (h₀ : Held) (v : ℕ) (b : Block) (c : List ℕ) (early : ℕ) where
   -- refused by a test before 8
-  pub edit_refused : (n : Refusal) → (number_of n ≡ 0 → ⊥) → (early ≡ 0 → ⊥) → EightBit d₀ → EditPost s p d₀ d₀ h₀ h₀ v b c early (pos 0) (record { refusal = n; change = pos 0; settings = s })
-  edit_refused n ne late bytes =
+  pub edit_refused : (n : Refusal) → (early ≡ 0 → ⊥) → EightBit d₀ → EditPost s p d₀ d₀ h₀ h₀ v b c early (pos 0) (record { number = number_of n; change = pos 0; settings = s })
+  edit_refused n late bytes =
+      let ne = some_number n in
       record {
         refused_depths = λ _. refl;
         refused_held = λ _. refl;
@@ -114,7 +114,7 @@ module _ (s : Settings) (p : Pictures) (d₀ : Depths) (h₀ : Held) (v : ℕ) (
       }
 
   -- settled; n is the change as it is answered
-  pub edit_settled : {rest : ℕ} (r : Decision) (n : ℤ) → n ≡ r.change → (d : Depths) (h : Held) → Passed s p d₀ h₀ b c → (w : Settled s p d₀ d h₀ h v b c rest r) → EightBit d → EditPost s p d₀ d h₀ h v b c early (sub_ℕ w.new w.old) (record { refusal = r.refusal; change = n; settings = with_total s r.total })
+  pub edit_settled : {rest : ℕ} (r : Verdict) (n : ℤ) → n ≡ r.change → (d : Depths) (h : Held) → Passed s p d₀ h₀ b c → (w : Settled s p d₀ d h₀ h v b c rest r) → EightBit d → EditPost s p d₀ d h₀ h v b c early (sub_ℕ w.new w.old) (record { number = r.number; change = n; settings = with_total s r.total })
   edit_settled r n e d h f w bytes =
       record {
         refused_depths = w.kept_depths;

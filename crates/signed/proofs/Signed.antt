@@ -1,20 +1,14 @@
 -- Signed numbers as differences of natural ones, and the machine's signed values.
 --     sub_ℕ-pos, sub_ℕ_neg, add-sub_ℕ     the difference of two naturals, by cases, and added to a natural
---     minus_fits, minus_is             the machine's difference of two naturals, over the width
---     widened, read_back, of_z_inj      the machine's signed values, read from their bits
+--     read_back, of_z_inj               the machine's signed values, read from their bits
 use Prim.Native.Nat.{ℕ, suc, ◌+◌, ◌-◌, ◌^◌, ◌<◌, ◌≤◌}
 use mathlib.Core.Path.{◌≡◌, sym, ap, ◌∙◌}
-use mathlib.Core.Logic.{⊎_elim}
-use native.Mathlib.Omega.{arith}
 use borrow.Author.Tests.{lt-ltb, le-ltb}
-use lib.Dec.{T, leb}
-use lib.IntN.{ℤ, pos, negsuc, neg_ℤ, sub_ℕ, ◌-ℤ◌, ◌+ℤ◌, +ℤ_assoc}
+use lib.IntN.{ℤ, pos, negsuc, neg_ℤ, sub_ℕ, ◌+ℤ◌, +ℤ_assoc}
 use lib.Signed.{mag}
 use mir.Syntax.{Width}
-use mir.Val.{SFits, hbits, to_z, of_z}
-use mir.ValLaws.{to_z_pos, to_z-of_z}
-use mir.Facts.{sfits_widen}
-use Rattle.model.proofs.Choice.{lt_or_le}
+use mir.Val.{hbits, to_z, of_z}
+use mir.ValLaws.{to_z-of_z}
 use Rattle.model.proofs.Signs.{minus}
 
 pub sub_ℕ-pos : (a b : ℕ) → b ≤ a → sub_ℕ a b ≡ pos (a - b)
@@ -26,27 +20,6 @@ sub_ℕ_neg a b h = rw (lt-ltb a b h)
 -- a number plus a difference, as one difference
 pub add-sub_ℕ : (t a b : ℕ) → pos t +ℤ sub_ℕ a b ≡ sub_ℕ (t + a) b
 add-sub_ℕ t a b = rw (← minus a b) (sym (+ℤ_assoc (pos t) (pos a) (neg_ℤ (pos b))) ∙ minus (t + a) b)
-
--- the difference of two naturals below k
-pub mag-sub_ℕ : (a b k : ℕ) → a < k → b < k → mag (sub_ℕ a b) < k
-mag-sub_ℕ a b k ha hb =
-    ⊎_elim (λ h. rw (sub_ℕ_neg a b h) (omega arith)) (λ h. rw (sub_ℕ-pos a b h) (omega arith)) (lt_or_le a b)
-
-module _ (w : Width) (a b : ℕ) (ha : a < 2 ^ hbits w) (hb : b < 2 ^ hbits w) where
-  minus_at : to_z w a -ℤ to_z w b ≡ sub_ℕ a b
-  minus_at = rw (to_z_pos w a ha, to_z_pos w b hb) (minus a b)
-
-  -- a machine's difference of two naturals fits
-  pub minus_fits : SFits w (to_z w a -ℤ to_z w b)
-  minus_fits = rw minus_at (record { sfits = mag-sub_ℕ a b (2 ^ hbits w) ha hb })
-
-  -- and is their difference
-  pub minus_is : to_z w (of_z w (to_z w a -ℤ to_z w b)) ≡ sub_ℕ a b
-  minus_is = to_z-of_z w (to_z w a -ℤ to_z w b) minus_fits ∙ minus_at
-
--- a signed value after a widening cast
-pub widened : (w w' : Width) (z : ℤ) → T (leb (hbits w) (hbits w')) → SFits w z → to_z w' (of_z w' (to_z w (of_z w z))) ≡ z
-widened w w' z t f = rw (to_z-of_z w z f) (to_z-of_z w' z (sfits_widen t f))
 
 -- a signed element of a slice, or a signed result, read from its bits
 pub read_back : (w : Width) (z : ℤ) → mag z < 2 ^ hbits w → to_z w (of_z w z) ≡ z

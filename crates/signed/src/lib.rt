@@ -27,15 +27,7 @@ pub fn limit_of(x: u32) -> i16
 pub fn raised_of(limit: i16) -> u32
     ensures { (result ≡ raised_of limit) × (result ≤ 17408) }
 {
-    let quarters = limit as i32;
-    if quarters < -1024 {
-        return 0;
-    }
-    let x = (quarters + 1024) as u32;
-    if 17408 < x {
-        return 17408;
-    }
-    x
+    (i32::from(limit) + 1024).clamp(0, 17408) as u32
 }
 
 // The change from `old` to `new`.
@@ -51,14 +43,7 @@ pub fn in_range(total: u64, old: u64, new: u64, most: u64) -> bool
     requires { (old < 2 ^ 62) × ((new < 2 ^ 62) × (most < 2 ^ 62)) }
     ensures { result ≡ within (pos total +ℤ sub_ℕ new old) most }
 {
-    if most + old < total {
-        return false;
-    }
-    let sum = total + new;
-    if sum < old {
-        return false;
-    }
-    sum - old <= most
+    total <= most + old && old <= total + new && total + new <= most + old
 }
 
 // The total plus the change from `old` to `new`, where it was found in range.

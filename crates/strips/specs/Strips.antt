@@ -16,8 +16,10 @@ use Rattle.sums.specs.Sides.{paired}
 use Rattle.pixel.specs.declared.Pair.{Pair}
 use Rattle.pixel.specs.Pairs.{edge_right}
 use Rattle.places.specs.Positions.{first_at}
+use Rattle.strips.specs.declared.Counterpart.{Counterpart}
+use Rattle.strips.specs.declared.Source.{Source}
 use Rattle.limits.specs.Limits.{span_top}
-use Rattle.row.specs.Drawing.{pixel_below, Ahead, Passed}
+use Rattle.row.specs.Drawing.{pixel_below, line_with, Ahead, Passed}
 
 -- the first position of the span of an edit of the n columns from `first` on, from places f to places g
 unfoldable pub span_start : (ℕ → ℕ) → (ℕ → ℕ) → ℕ → ℕ → ℕ
@@ -69,6 +71,17 @@ around right share tolerance samples fronts marks combined reference =
       combined = combined;
       reference = reference;
     }
+
+-- what a function is lent
+abbrev pub own_lent : Source → Own
+own_lent v = own v.tear v.table.now v.texture.now v.depths.now v.limits.now
+
+abbrev pub around_lent : Counterpart → Around
+around_lent o = around o.right o.share o.tolerance o.samples.now o.fronts.now o.marks.now o.combined.now o.reference.now
+
+-- the row as the view reads it, with the candidate x in the entries from `column` on
+abbrev pub line_lent : Source → Bool → ℕ → List ℕ → Line
+line_lent v right column x = line_with v.tear right v.table.now v.texture.now v.depths.now column x
 
 -- the row as the view reads it: as it stands, and with the candidate x in the columns from `first` on
 abbrev pub standing : Bool → Own → Line

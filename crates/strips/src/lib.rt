@@ -12,11 +12,34 @@ ghost use Rattle.marks.specs.Puts.{held_pixel};
 ghost use Rattle.sums.specs.Squares.{Squares};
 ghost use Rattle.sums.specs.Sides.{paired};
 ghost use Rattle.pixel.specs.Pairs.{edge_right};
-ghost use Rattle.row.specs.Drawing.{Ready, pixel_below, line_with, Ahead};
-ghost use Rattle.strips.specs.Strips.{Beside, span_start, around, own, Summed, Measured, Stretch, RowTrial};
+ghost use Rattle.row.specs.Drawing.{Ready, pixel_below, Ahead};
+ghost use Rattle.strips.specs.Strips.{Beside, span_start, around_lent, own_lent, line_lent, error_with, Summed, Measured, Stretch, RowTrial};
 
 use model::{Pixel, Tear};
 use pixel::Pair;
+
+// What is drawn: where rows tear, and a view's table, texture, depths and held limits.
+#[derive(Clone, Copy)]
+pub struct Source<'a> {
+    pub tear: Tear,
+    pub table: &'a [u16; 256],
+    pub texture: &'a [u16],
+    pub depths: &'a [u8],
+    pub limits: &'a [i16],
+}
+
+// What it is set against: the other view's held planes, the combined picture and the reference, and how the views are combined.
+#[derive(Clone, Copy)]
+pub struct Counterpart<'a> {
+    pub right: bool,
+    pub share: u8,
+    pub tolerance: u8,
+    pub samples: &'a [u16],
+    pub fronts: &'a [u8],
+    pub marks: &'a [u8],
+    pub combined: &'a [u16],
+    pub reference: &'a [u16],
+}
 
 // The squared errors of some positions: as held, and as the trial shows them.
 #[derive(Drop)]
@@ -47,133 +70,89 @@ fn span_start(
     requires candidate_nonzero { (0 < length candidate.now) × (column ≡ first_column right (length depths.now) first (length candidate.now)) }
     ensures { result ≡ span_start (place table.now (seen right depths.now)) (place table.now (splice (seen right depths.now) first (seen right candidate.now))) first (length candidate.now) }
 {
-    let near = places::column_before(first);
-    let mut low = places::place_of(right, table, depths, near);
-    let mut n = candidate.len();
-    while 0 < n {
-        n -= 1;
+    let mut low = places::place_of(right, table, depths, first.saturating_sub(1));
+    for n in (0..candidate.len()).rev() {
         let k = planes::entry(right, candidate.len(), n);
         let old = places::place_at(table, first + n, depths[column + k]);
         let new = places::place_at(table, first + n, candidate[k]);
-        low = places::least(places::least(old, new), low);
+        low = old.min(new).min(low);
     }
-    places::first_at(places::quarter_before(low))
-}
-
-// A squared error in a sum.
-fn wide(x: u32) -> u64
-    ensures { result ≡ x }
-{
-    x as u64
+    places::first_at(low.saturating_sub(1))
 }
 
 // The squared error of the combined sample at entry i, where the view shows q.
-fn error_with(
-    right: bool,
-    squares: &[u32; 1024],
-    share: u8,
-    tolerance: u8,
-    samples: &[u16],
-    fronts: &[u8],
-    marks: &[u8],
-    reference: &[u16],
-    q: Pixel,
-    i: usize,
-) -> u32
-    requires squares { (Squares squares.now) × ((share ≤ 64) × (q.sample ≤ greatest)) }
-    requires i_in_bounds { (i < length samples.now) × ((i < length fronts.now) × ((i < 8 * length marks.now) × (i < length reference.now))) }
-    ensures { (result ≡ square_error (paired right share tolerance q (held_pixel samples.now fronts.now marks.now i)) (sample_in reference.now i)) × (result ≤ worst) }
+fn error_with(squares: &[u32; 1024], o: Counterpart, q: Pixel, i: usize) -> u32
+    requires squares { (Squares squares.now) × ((o.share ≤ 64) × (q.sample ≤ greatest)) }
+    requires i_in_bounds { (i < length o.samples.now) × ((i < length o.fronts.now) × ((i < 8 * length o.marks.now) × (i < length o.reference.now))) }
+    ensures { (result ≡ error_with (around_lent o.entry) q i) × (result ≤ worst) }
 {
-    let other = marks::held_pixel(samples, fronts, marks, i);
+    let other = marks::held_pixel(o.samples, o.fronts, o.marks, i);
     sums::square_error(
         squares,
-        sums::paired(right, share, tolerance, q, other),
-        model::sample_in(reference, i),
+        sums::paired(o.right, o.share, o.tolerance, q, other),
+        model::sample_in(o.reference, i),
     )
 }
 
 // The sums over the entries of a row from `from` on, where the view shows what the strip holds: its samples s, front depths f and marks m.
 fn measure(
-    right: bool,
     squares: &[u32; 1024],
-    share: u8,
-    tolerance: u8,
-    samples: &[u16],
-    fronts: &[u8],
-    marks: &[u8],
-    combined: &[u16],
-    reference: &[u16],
+    o: Counterpart,
     from: usize,
     s: &[u16],
     f: &[u8],
     m: &[u8],
 ) -> Sums
-    requires squares { (Squares squares.now) × (share ≤ 64) }
-    requires beside { Beside (length reference.now) samples.now fronts.now marks.now combined.now }
-    requires s_in_bounds { (from + length s.now ≤ length reference.now) × (length reference.now ≤ 4096) }
+    requires squares { (Squares squares.now) × (o.share ≤ 64) }
+    requires beside { Beside (length o.reference.now) o.samples.now o.fronts.now o.marks.now o.combined.now }
+    requires s_in_bounds { (from + length s.now ≤ length o.reference.now) × (length o.reference.now ≤ 4096) }
     requires f_len { (length f.now ≡ length s.now) × (length m.now ≡ length s.now) }
     requires by_index { (k : ℕ) → get_or s.now k 0 ≤ greatest }
-    ensures { Measured (around right share tolerance samples.now fronts.now marks.now combined.now reference.now)
+    ensures { Measured (around_lent o.entry)
         from (length s.now) (λ k. pixel (get_or s.now k 0) (get_or m.now k 0) (get_or f.now k 0)) result.old result.new }
 {
     let mut old = 0u64;
     let mut new = 0u64;
-    let mut k = 0;
-    while k < s.len() {
+    for (k, sample) in s.iter().enumerate() {
         let i = from + k;
         let shown = Pixel {
-            sample: s[k],
+            sample: *sample,
             mark: m[k],
             front: f[k],
         };
-        let error = error_with(
-            right, squares, share, tolerance, samples, fronts, marks, reference, shown, i,
-        );
-        new += wide(error);
-        old += wide(sums::error_at(squares, combined, reference, i));
-        k += 1;
+        let error = error_with(squares, o, shown, i);
+        new += u64::from(error);
+        old += u64::from(sums::error_at(squares, o.combined, o.reference, i));
     }
     Sums { old, new }
 }
 
 // The trial of the positions from `start` on: drawn into the strip, samples s, front depths f and marks m, then measured.
 fn trial_into(
-    tear: Tear,
-    right: bool,
-    table: &[u16; 256],
     squares: &[u32; 1024],
-    share: u8,
-    tolerance: u8,
-    texture: &[u16],
-    depths: &[u8],
+    v: Source,
+    o: Counterpart,
     candidate: &[u8],
     column: usize,
-    samples: &[u16],
-    fronts: &[u8],
-    marks: &[u8],
-    combined: &[u16],
-    reference: &[u16],
     from: Pair,
     start: usize,
     s: &mut [u16],
     f: &mut [u8],
     m: &mut [u8],
 ) -> Strip
-    requires squares { (Squares squares.now) × (share ≤ 64) }
-    requires beside { Beside (length reference.now) samples.now fronts.now marks.now combined.now }
-    requires ready { (Ready (line_with tear right table.now texture.now depths.now column candidate.now)) × ((column + length candidate.now ≤ length depths.now) × (length reference.now ≡ length depths.now)) }
-    requires ahead { (Ahead right (line_with tear right table.now texture.now depths.now column candidate.now) (start + length s.old) from) × ((length f.old ≡ length s.old) × (length m.old ≡ length s.old)) }
-    ensures { Stretch (around right share tolerance samples.now fronts.now marks.now combined.now reference.now)
-        (line_with tear right table.now texture.now depths.now column candidate.now) start (start + length s.old) from result.pair result.old result.new }
+    requires squares { (Squares squares.now) × (o.share ≤ 64) }
+    requires beside { Beside (length o.reference.now) o.samples.now o.fronts.now o.marks.now o.combined.now }
+    requires ready { (Ready (line_lent v o.right column candidate.now)) × ((column + length candidate.now ≤ length v.depths.now) × (length o.reference.now ≡ length v.depths.now)) }
+    requires ahead { (Ahead o.right (line_lent v o.right column candidate.now) (start + length s.old) from) × ((length f.old ≡ length s.old) × (length m.old ≡ length s.old)) }
+    ensures { Stretch (around_lent o.entry)
+        (line_lent v.entry o.entry.right column candidate.now) start (start + length s.old) from result.pair result.old result.new }
 {
     let n = s.len();
     let pair = row::draw_span(
-        tear, right, table, texture, depths, candidate, column, from, start, s, f, m,
+        v.tear, o.right, v.table, v.texture, v.depths, candidate, column, from, start, s, f, m,
     );
-    let at = places::part_start(right, depths.len(), start, start + n);
-    let sums = measure(
-        right, squares, share, tolerance, samples, fronts, marks, combined, reference, at, s, f, m,
-    );
+    let at = places::part_start(o.right, v.depths.len(), start, start + n);
+    let sums = measure(squares, o, at, s, f, m);
     Strip {
         old: sums.old,
         new: sums.new,
@@ -181,67 +160,33 @@ fn trial_into(
     }
 }
 
-// Room for the samples of a strip.
-fn sample_room() -> [u16; 32]
-    ensures { 32 ≡ length result }
-{
-    [0u16; 32]
-}
-
-// Room for another plane of it.
-pub fn room() -> [u8; 32]
-    ensures { 32 ≡ length result }
-{
-    [0u8; 32]
-}
-
 // The same of n positions, at most 32. A strip is short, since it is cleared for every row; a longer span takes several.
 fn trial_strip(
-    tear: Tear,
-    right: bool,
-    table: &[u16; 256],
     squares: &[u32; 1024],
-    share: u8,
-    tolerance: u8,
-    texture: &[u16],
-    depths: &[u8],
+    v: Source,
+    o: Counterpart,
     candidate: &[u8],
     column: usize,
-    samples: &[u16],
-    fronts: &[u8],
-    marks: &[u8],
-    combined: &[u16],
-    reference: &[u16],
     from: Pair,
     start: usize,
     n: usize,
 ) -> Strip
-    requires squares { (Squares squares.now) × (share ≤ 64) }
-    requires beside { Beside (length reference.now) samples.now fronts.now marks.now combined.now }
-    requires ready { (Ready (line_with tear right table.now texture.now depths.now column candidate.now)) × ((column + length candidate.now ≤ length depths.now) × (length reference.now ≡ length depths.now)) }
-    requires ahead { (Ahead right (line_with tear right table.now texture.now depths.now column candidate.now) (start + n) from) × (n ≤ 32) }
-    ensures { Stretch (around right share tolerance samples.now fronts.now marks.now combined.now reference.now)
-        (line_with tear right table.now texture.now depths.now column candidate.now) start (start + n) from result.pair result.old result.new }
+    requires squares { (Squares squares.now) × (o.share ≤ 64) }
+    requires beside { Beside (length o.reference.now) o.samples.now o.fronts.now o.marks.now o.combined.now }
+    requires ready { (Ready (line_lent v o.right column candidate.now)) × ((column + length candidate.now ≤ length v.depths.now) × (length o.reference.now ≡ length v.depths.now)) }
+    requires ahead { (Ahead o.right (line_lent v o.right column candidate.now) (start + n) from) × (n ≤ 32) }
+    ensures { Stretch (around_lent o.entry)
+        (line_lent v.entry o.entry.right column candidate.now) start (start + n) from result.pair result.old result.new }
 {
-    let mut s = sample_room();
-    let mut f = room();
-    let mut m = room();
+    let mut s = planes::room::<u16, 32>(0);
+    let mut f = planes::room::<u8, 32>(0);
+    let mut m = planes::room::<u8, 32>(0);
     trial_into(
-        tear,
-        right,
-        table,
         squares,
-        share,
-        tolerance,
-        texture,
-        depths,
+        v,
+        o,
         candidate,
         column,
-        samples,
-        fronts,
-        marks,
-        combined,
-        reference,
         from,
         start,
         &mut s[..n],
@@ -250,68 +195,32 @@ fn trial_strip(
     )
 }
 
-// Where the last strip of the positions from `start` up to `top` begins.
-fn strip_start(start: usize, top: usize) -> usize
-    requires { start < top }
-    ensures { (start ≤ result) × ((result < top) × (top ≤ result + 32)) }
-{
-    if top - start <= 32 { start } else { top - 32 }
-}
-
 // The trial of the positions from `start` up to `stop`, strip by strip from the right.
 fn trial_strips(
-    tear: Tear,
-    right: bool,
-    table: &[u16; 256],
     squares: &[u32; 1024],
-    share: u8,
-    tolerance: u8,
-    texture: &[u16],
-    depths: &[u8],
+    v: Source,
+    o: Counterpart,
     candidate: &[u8],
     column: usize,
-    samples: &[u16],
-    fronts: &[u8],
-    marks: &[u8],
-    combined: &[u16],
-    reference: &[u16],
     from: Pair,
     start: usize,
     stop: usize,
 ) -> Sums
-    requires squares { (Squares squares.now) × (share ≤ 64) }
-    requires beside { Beside (length reference.now) samples.now fronts.now marks.now combined.now }
-    requires ready { (Ready (line_with tear right table.now texture.now depths.now column candidate.now)) × ((column + length candidate.now ≤ length depths.now) × (length reference.now ≡ length depths.now)) }
-    requires ahead { Ahead right (line_with tear right table.now texture.now depths.now column candidate.now) stop from }
-    ensures { Summed (around right share tolerance samples.now fronts.now marks.now combined.now reference.now) (length reference.now)
-        (pixel_below (line_with tear right table.now texture.now depths.now column candidate.now) (from.column + 1) (edge_right from)) (min start stop) stop result.old result.new }
+    requires squares { (Squares squares.now) × (o.share ≤ 64) }
+    requires beside { Beside (length o.reference.now) o.samples.now o.fronts.now o.marks.now o.combined.now }
+    requires ready { (Ready (line_lent v o.right column candidate.now)) × ((column + length candidate.now ≤ length v.depths.now) × (length o.reference.now ≡ length v.depths.now)) }
+    requires ahead { Ahead o.right (line_lent v o.right column candidate.now) stop from }
+    ensures { Summed (around_lent o.entry) (length o.entry.reference.now)
+        (pixel_below (line_lent v.entry o.entry.right column candidate.now) (from.column + 1) (edge_right from)) (min start stop) stop result.old result.new }
 {
     let mut q = from;
     let mut top = stop;
     let mut old = 0u64;
     let mut new = 0u64;
+    // no range: the leftmost strip is as long as what is left
     while start < top {
-        let bottom = strip_start(start, top);
-        let strip = trial_strip(
-            tear,
-            right,
-            table,
-            squares,
-            share,
-            tolerance,
-            texture,
-            depths,
-            candidate,
-            column,
-            samples,
-            fronts,
-            marks,
-            combined,
-            reference,
-            q,
-            bottom,
-            top - bottom,
-        );
+        let bottom = top.saturating_sub(32).max(start);
+        let strip = trial_strip(squares, v, o, candidate, column, q, bottom, top - bottom);
         old += strip.old;
         new += strip.new;
         q = strip.pair;
@@ -322,57 +231,35 @@ fn trial_strips(
 
 // The two sums of a row's trial, over the positions that the candidate can change.
 pub fn trial_row(
-    tear: Tear,
-    right: bool,
-    table: &[u16; 256],
     squares: &[u32; 1024],
-    share: u8,
-    tolerance: u8,
-    first: usize,
-    texture: &[u16],
-    depths: &[u8],
-    limits: &[i16],
+    v: Source,
+    o: Counterpart,
     candidate: &[u8],
-    samples: &[u16],
-    fronts: &[u8],
-    marks: &[u8],
-    combined: &[u16],
-    reference: &[u16],
+    first: usize,
 ) -> Sums
-    requires table_value { (table_ok table.now ≡ true) × ((Squares squares.now) × (share ≤ 64)) }
-    requires depths_len { (length depths.now ≡ length reference.now) × ((length texture.now ≡ length reference.now) × (length limits.now ≡ length reference.now)) }
-    requires beside { Beside (length reference.now) samples.now fronts.now marks.now combined.now }
-    requires candidate_nonzero { (0 < length candidate.now) × ((first + length candidate.now ≤ length depths.now) × (length reference.now ≤ 4096)) }
-    ensures { RowTrial (around right share tolerance samples.now fronts.now marks.now combined.now reference.now)
-        (own tear table.now texture.now depths.now limits.now) candidate.now first result.old result.new }
+    requires table_value { (table_ok v.table.now ≡ true) × ((Squares squares.now) × (o.share ≤ 64)) }
+    requires depths_len { (length v.depths.now ≡ length o.reference.now) × ((length v.texture.now ≡ length o.reference.now) × (length v.limits.now ≡ length o.reference.now)) }
+    requires beside { Beside (length o.reference.now) o.samples.now o.fronts.now o.marks.now o.combined.now }
+    requires candidate_nonzero { (0 < length candidate.now) × ((first + length candidate.now ≤ length v.depths.now) × (length o.reference.now ≤ 4096)) }
+    ensures { RowTrial (around_lent o.entry) (own_lent v.entry) candidate.now first result.old result.new }
 {
-    let w = depths.len();
+    let w = v.depths.len();
     let width = candidate.len();
     let n = first + width;
-    let column = places::part_start(right, w, first, n);
-    let start = span_start(right, table, depths, candidate, first, column);
-    let next = limits::next_place(right, table, depths, n - 1);
-    let high = limits::limit_under(right, limits, n, next);
-    let d0 = places::at(right, candidate, width - 1);
-    let d1 = places::at(right, depths, n);
-    let edge = limits::edge_of(right, limits, n, high);
-    let from = row::pair_of(right, table, w, n - 1, d0, d1, next, edge);
+    let column = places::part_start(o.right, w, first, n);
+    let start = span_start(o.right, v.table, v.depths, candidate, first, column);
+    let next = limits::next_place(o.right, v.table, v.depths, n - 1);
+    let high = limits::limit_under(o.right, v.limits, n, next);
+    let d0 = places::at(o.right, candidate, width - 1);
+    let d1 = places::at(o.right, v.depths, n);
+    let edge = limits::edge_of(o.right, v.limits, n, high);
+    let from = row::pair_of(o.right, v.table, w, n - 1, d0, d1, next, edge);
     trial_strips(
-        tear,
-        right,
-        table,
         squares,
-        share,
-        tolerance,
-        texture,
-        depths,
+        v,
+        o,
         candidate,
         column,
-        samples,
-        fronts,
-        marks,
-        combined,
-        reference,
         from,
         start,
         places::first_at(high),

@@ -1,17 +1,14 @@
 -- The combined sample told by one view of the other: two marks 0 of near depths are blended, and elsewhere one of the two samples is taken.
 --     both_shown_lem, shown_both    joined marks are 0 where both are, and there alone
---     own_hole_lem                  the tie of two holes as a sum
 --     paired_blended            where the two are blended
 --     paired_chosen             where one is taken
 --     paired_most               it is no greater than a sample may be
-use Prim.Native.Nat.{ℕ, ◌+◌, ◌-◌, ◌*◌, ◌<◌, ◌≤◌}
+use Prim.Native.Nat.{ℕ, ◌-◌, ◌*◌, ◌<◌, ◌≤◌}
 use mathlib.Core.Path.{◌≡◌}
 use mathlib.Core.Bool.{Bool, true, false, cond}
-use native.Mathlib.Nat.{add-zero, add_comm}
-use native.Mathlib.Numerals.{add-one}
+use native.Mathlib.Nat.{add_comm}
 use native.Mathlib.Omega.{arith}
-use mir.Val.{bool_byte}
-use lib.Dec.{leb, ltb, eqb}
+use lib.Dec.{ltb, eqb}
 use lib.Bits.{bit_or, or_add_and, and_le_l, and_le_r}
 use borrow.Author.Tests.{ltb-true, ltb-false, lt-ltb, le-ltb, le-leb, lt-leb, eq-eqb, eqb-true}
 use Rattle.model.specs.declared.Pixel.{Pixel}
@@ -30,17 +27,6 @@ both_shown_lem a b e =
 
 pub shown_both : (a b : ℕ) → a ≡ 0 → b ≡ 0 → bit_or a b ≡ 0
 shown_both a b p q = omega (arith, or_add_and a b)
-
--- the view as a number
-pub byte_most : (right : Bool) → bool_byte right ≤ 1
-byte_most true = omega arith
-byte_most false = omega arith
-
--- the right view's hole wins only where it is strictly nearer
-pub own_hole_lem : (right : Bool) (own other : ℕ) → leb (own + bool_byte right) other ≡ own_hole right own other
-unfolding own_hole
-own_hole_lem true own other = rw (add-one own)
-own_hole_lem false own other = rw (add-zero own)
 
 -- the two parts of the blended sample make up the whole, whichever is named first
 pub paired_blended : (right : Bool) (share tolerance : ℕ) (own other : Pixel) → share ≤ 64 → own.mark ≡ 0 → other.mark ≡ 0 → apart own.front other.front ≤ tolerance → blended (own_share right share) other.sample own.sample ≡ paired right share tolerance own other

@@ -103,37 +103,27 @@ pub fn squares() -> [u32; 1024]
     SQUARES
 }
 
-// How far two numbers differ.
-fn apart(a: u16, b: u16) -> u16
-    ensures { result ≡ apart a b }
-{
-    if a < b { b - a } else { a - b }
-}
-
 // The squared error of two samples.
+#[tactic(auto, unfolding(model::specs::Combined::square_error))]
 pub fn square_error(squares: &[u32; 1024], a: u16, b: u16) -> u32
     requires { (Squares squares.now) × ((a ≤ greatest) × (b ≤ greatest)) }
     ensures { (result ≡ square_error a b) × (result ≤ worst) }
 {
-    squares[apart(a, b) as usize]
-}
-
-// Two front depths differ by at most the tolerance.
-fn near(a: u8, b: u8, tolerance: u8) -> bool
-    ensures { result ≡ leb (apart a b) tolerance }
-{
-    apart(a as u16, b as u16) <= tolerance as u16
+    squares[usize::from(a.abs_diff(b))]
 }
 
 // Two samples mixed by the share of the right one, in sixty-fourths.
+#[tactic(auto, unfolding(model::specs::Combined::blended))]
 fn blended(share: u8, left: u16, right: u16) -> u16
     requires { share ≤ 64 }
     ensures { result ≡ blended share left right }
 {
-    ((left as u32 * (64 - share) as u32 + right as u32 * share as u32 + 32) / 64) as u16
+    let sum = u32::from(left) * u32::from(64 - share) + u32::from(right) * u32::from(share);
+    ((sum + 32) / 64) as u16
 }
 
 // The part of a view's own sample where both views are mixed, in sixty-fourths.
+#[tactic(auto, unfolding(crate::specs::Sides::own_share))]
 fn own_share(right: bool, share: u8) -> u8
     requires { share ≤ 64 }
     ensures { (result ≡ own_share right share) × (result ≤ 64) }
@@ -142,21 +132,16 @@ fn own_share(right: bool, share: u8) -> u8
 }
 
 // Whether the view's own sample is taken, where the two are not mixed.
+#[tactic(auto, unfolding(crate::specs::Sides::prefers_own, crate::specs::Sides::own_hole))]
 fn prefers(right: bool, own: Pixel, other: Pixel) -> bool
     ensures { result ≡ prefers_own right own other }
 {
-    if own.mark == 0 {
-        if other.mark == 0 {
-            other.front < own.front
-        } else {
-            true
-        }
-    } else {
-        if other.mark == 0 {
-            false
-        } else {
-            own.front as u32 + right as u32 <= other.front as u32
-        }
+    match (own.mark, other.mark) {
+        (0, 0) => other.front < own.front,
+        (0, _) => true,
+        (_, 0) => false,
+        _ if right => own.front < other.front,
+        _ => own.front <= other.front,
     }
 }
 
@@ -165,13 +150,9 @@ pub fn paired(right: bool, share: u8, tolerance: u8, own: Pixel, other: Pixel) -
     requires { share ≤ 64 }
     ensures { result ≡ paired right share tolerance own other }
 {
-    if own.mark | other.mark == 0 {
-        if near(own.front, other.front, tolerance) {
-            let part = own_share(right, share);
-            return blended(part, other.sample, own.sample);
-        }
-    }
-    if prefers(right, own, other) {
+    if own.mark | other.mark == 0 && own.front.abs_diff(other.front) <= tolerance {
+        blended(own_share(right, share), other.sample, own.sample)
+    } else if prefers(right, own, other) {
         own.sample
     } else {
         other.sample
@@ -192,16 +173,15 @@ pub fn error_at(squares: &[u32; 1024], combined: &[u16], reference: &[u16], i: u
 }
 
 // The sum of the squared errors of a row.
+#[tactic(auto, unfolding(model::specs::Lists::sum_to, model::specs::Row::sample_in))]
 pub fn row_error(squares: &[u32; 1024], combined: &[u16], reference: &[u16]) -> u32
     requires squares { Squares squares.now }
     requires combined_len { (length combined.now ≡ length reference.now) × (length combined.now ≤ 4096) }
     ensures { (result ≡ sum_to (λ i. square_error (sample_in combined.now i) (sample_in reference.now i)) (length combined.now)) × (result ≤ worst * length combined.now) }
 {
     let mut sum = 0u32;
-    let mut i = 0;
-    while i < combined.len() {
-        sum += error_at(squares, combined, reference, i);
-        i += 1;
+    for (sample, wanted) in combined.iter().zip(reference) {
+        sum += square_error(squares, model::read(*sample), model::read(*wanted));
     }
     sum
 }

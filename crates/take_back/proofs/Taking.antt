@@ -17,21 +17,21 @@ use Rattle.model.specs.declared.Settings.{Settings}
 use Rattle.model.specs.declared.Refusal.{Refusal}
 use Rattle.model.specs.Planes.{Pictures, Depths, Held, with_total}
 use Rattle.model.specs.Candidates.{positions}
-use Rattle.model.specs.Journals.{newest, record_view, record_block, record_depths, record_end}
+use Rattle.model.specs.Journals.{with_newest, newest, record_view, record_block, record_depths, record_end}
 use Rattle.model.specs.Refusals.{number_of, in_range, journal_ok, some_record, common_then, taking_then, take_back_early}
 use Rattle.model.specs.Promises.{EightBit, TakeBackPost}
-use Rattle.model.proofs.Refusals.{unless_true, unless_rest, rest_passed, block_yes, common_before, common_passed, taken_before}
+use Rattle.model.proofs.Refusals.{some_number, unless_true, unless_rest, rest_passed, block_yes, common_before, common_passed, taken_before}
 use Rattle.model.proofs.Journals as journals
 use Rattle.model.proofs.Journals.{journal_words, journal_newest, taking_sides}
 use Rattle.validate.specs.Numbers.{common_number, sides}
 use Rattle.validate.proofs.Numbers.{lengths_of, common_number_lem}
-use Rattle.judge.specs.declared.Decision.{Decision}
+use Rattle.judge.specs.Judged.{Verdict}
 use Rattle.settled.specs.Settled.{Settled}
 use Rattle.settled.proofs.Settling.{edit_refused, edit_settled}
 use Rattle.restore.specs.Saved.{SavedIn}
 use Rattle.restore.proofs.Parts.{saved_passed}
 use Rattle.records.specs.declared.Record.{Record}
-use Rattle.records.specs.Taken.{NewestRecord, Struck}
+use Rattle.records.specs.Taken.{NewestRecord}
 
 -- the newest record of a journal that TAKE BACK does not refuse
 module _ (s : Settings) (j : List ℕ) (e : taking_then s j 0 ≡ 0) where
@@ -85,26 +85,27 @@ module _ (s : Settings) (p : Pictures) (d₀ : Depths) (h₀ : Held) (j₀ : Lis
       taken_requires = rw (part_taken, e.block) saved_in
 
   -- refused by a test before 8
-  pub take_refused : (n : Refusal) → number_of n ≡ take_back_early s p d₀ h₀ j₀ → (number_of n ≡ 0 → ⊥) → EightBit d₀ → TakeBackPost s p d₀ d₀ h₀ h₀ j₀ j₀ (record { refusal = n; change = pos 0; settings = s })
-  take_refused n e ne bytes =
+  pub take_refused : (n : Refusal) → number_of n ≡ take_back_early s p d₀ h₀ j₀ → EightBit d₀ → TakeBackPost s p d₀ d₀ h₀ h₀ j₀ j₀ (record { number = number_of n; change = pos 0; settings = s })
+  take_refused n e bytes =
+      let ne = some_number n in
       let late : take_back_early s p d₀ h₀ j₀ ≡ 0 → ⊥ = λ z. ne (e ∙ z) in
       record {
         found = pos 0;
         number = e ∙ sym ((taken_before s p d₀ h₀ j₀).stays _ late);
-        edit = edit_refused s p d₀ h₀ _ _ _ _ n ne late bytes;
+        edit = edit_refused s p d₀ h₀ _ _ _ _ n late bytes;
         refused_journal = λ _. refl;
         journal = λ z. absurd (ne z);
       }
 
   -- settled; n is the change as it is answered
-  pub take_settled : (r : Decision) (n : ℤ) → n ≡ r.change → (d : Depths) (h : Held) (j : List ℕ) → take_back_early s p d₀ h₀ j₀ ≡ 0 → {q : Record} → NewestRecord j₀ q → Settled s p d₀ d h₀ h q.view q.block (take (q.to - q.from) (drop q.from j₀)) 0 r → Struck r.refusal q.before j₀ j → EightBit d → TakeBackPost s p d₀ d h₀ h j₀ j (record { refusal = r.refusal; change = n; settings = with_total s r.total })
+  pub take_settled : (r : Verdict) (n : ℤ) → n ≡ r.change → (d : Depths) (h : Held) (j : List ℕ) → take_back_early s p d₀ h₀ j₀ ≡ 0 → {q : Record} → NewestRecord j₀ q → Settled s p d₀ d h₀ h q.view q.block (take (q.to - q.from) (drop q.from j₀)) 0 r → ((r.number ≡ 0 → ⊥) → j ≡ j₀) → (r.number ≡ 0 → j ≡ with_newest q.before j₀) → EightBit d → TakeBackPost s p d₀ d h₀ h j₀ j (record { number = r.number; change = n; settings = with_total s r.total })
   unfolding in_range
-  take_settled r n e d h j early {q} f w struck bytes =
+  take_settled r n e d h j early {q} f w kept moved bytes =
       let w' : Settled s p d₀ d h₀ h (record_view j₀ (newest j₀)) (record_block j₀ (newest j₀)) (record_depths j₀ (newest j₀)) 0 r = rw (f.view, f.block, part_taken early f) at w in
       record {
         found = sub_ℕ w'.new w'.old;
         number = w'.judged.number ∙ sym ((taken_before s p d₀ h₀ j₀).rest _ early);
         edit = edit_settled s p d₀ h₀ _ _ _ _ r n e d h (saved_passed s p d₀ h₀ _ _ (saved_in early)) w' bytes;
-        refused_journal = struck.refused;
-        journal = λ z. rw (← f.before) (struck.moved z);
+        refused_journal = kept;
+        journal = λ z. rw (← f.before) (moved z);
       }

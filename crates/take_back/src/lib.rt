@@ -3,8 +3,9 @@
 
 ghost use Rattle.model.specs.Planes as planes;
 ghost use Rattle.model.specs.Promises.{TakeBackPost};
+ghost use Rattle.model.specs.Replies.{edit_reply};
 
-use model::{Edited, Settings};
+use model::{Edited, Refusal, Settings};
 use validate::{Lengths, ViewLengths};
 
 // The change of the total and the settings with the new total, or the first refusal that applies, which leaves everything as it was.
@@ -25,14 +26,14 @@ pub fn take_back(
     rightMarks: &mut [u8],
     combined: &mut [u16],
     journal: &mut [u32],
-) -> Edited
+) -> Result<Edited, Refusal>
     ensures { TakeBackPost settings
         (planes.pictures left.now right.now reference.now)
         (planes.depths leftDepths.old rightDepths.old)
         (planes.depths leftDepths.new rightDepths.new)
         (planes.held (planes.view leftSamples.old leftFronts.old leftLimits.old leftMarks.old) (planes.view rightSamples.old rightFronts.old rightLimits.old rightMarks.old) combined.old)
         (planes.held (planes.view leftSamples.new leftFronts.new leftLimits.new leftMarks.new) (planes.view rightSamples.new rightFronts.new rightLimits.new rightMarks.new) combined.new)
-        journal.old journal.new result }
+        journal.old journal.new (edit_reply settings result) }
 {
     let lengths = Lengths {
         left: ViewLengths {
@@ -55,7 +56,7 @@ pub fn take_back(
         combined: combined.len(),
     };
     let tear = settings.tear;
-    let first = lists::take_back_refusal(
+    lists::take_back_refusal(
         settings.w,
         settings.h,
         &settings.left,
@@ -64,19 +65,12 @@ pub fn take_back(
         tear,
         lengths,
         journal,
-    );
-    if model::number(first) != 0 {
-        return Edited {
-            refusal: first,
-            change: 0,
-            settings: settings,
-        };
-    }
+    )?;
     let record = records::newest_record(journal);
     let block = record.block;
     let from = record.from;
     let to = record.to;
-    let decision = restore::restore_view(
+    let restored = restore::restore_view(
         settings.w,
         settings.h,
         &settings.left,
@@ -103,14 +97,13 @@ pub fn take_back(
         block,
         &journal[from..to],
     );
-    let refusal = decision.refusal;
-    records::strike(refusal, record.before, journal);
-    let mut next = settings;
-    next.total = decision.total;
-    let change = decision.change;
-    Edited {
-        refusal: refusal,
-        change: change,
-        settings: next,
-    }
+    let decision = restored?;
+    records::strike(record.before, journal);
+    Ok(Edited {
+        change: decision.change,
+        settings: Settings {
+            total: decision.total,
+            ..settings
+        },
+    })
 }

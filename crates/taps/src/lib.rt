@@ -5,17 +5,15 @@ ghost use Rattle.std.specs.Prelude.{◌≡◌, ◌+◌, ◌-◌, ◌<◌};
 ghost use Rattle.taps.specs.Sums.{scaled, quarter_of, half_of};
 
 // What is added less what is taken away, divided by 64 and held to a sample.
+#[tactic(auto, unfolding(crate::specs::Sums::scaled))]
 fn scale(added: u32, taken: u32) -> u16
     ensures { result ≡ scaled added taken }
 {
-    if added < taken {
-        return 0;
-    }
-    let n = (added - taken) / 64;
-    if n < 1023 { n as u16 } else { 1023 }
+    (added.saturating_sub(taken) / 64).min(1023) as u16
 }
 
 // A quarter of the way from s3 to s4.
+#[tactic(auto, unfolding(crate::specs::Sums::quarter_of))]
 pub fn quarter_of(s0: u16, s1: u16, s2: u16, s3: u16, s4: u16, s5: u16, s6: u16) -> u16
     ensures { result ≡ quarter_of s0 s1 s2 s3 s4 s5 s6 }
 {
@@ -25,6 +23,7 @@ pub fn quarter_of(s0: u16, s1: u16, s2: u16, s3: u16, s4: u16, s5: u16, s6: u16)
 }
 
 // Half of the way from s3 to s4.
+#[tactic(auto, unfolding(crate::specs::Sums::half_of))]
 pub fn half_of(s0: u16, s1: u16, s2: u16, s3: u16, s4: u16, s5: u16, s6: u16, s7: u16) -> u16
     ensures { result ≡ half_of s0 s1 s2 s3 s4 s5 s6 s7 }
 {

@@ -1,13 +1,18 @@
 -- The tests over lengths as plain facts.
-use Prim.Native.Nat.{ℕ, ◌*◌}
+use Prim.Native.Nat.{ℕ, ◌*◌, ◌≤◌}
 use mathlib.Core.Path.{◌≡◌}
 use mathlib.Core.Bool.{true}
 use borrow.Author.Tests.{eq-eqb, eqb-true}
 use Rattle.model.specs.Marks.{mark_bytes}
+use Rattle.model.specs.Refusals.{side_ok}
 use Rattle.model.proofs.Choice.{and_left, and_right}
+use Rattle.model.proofs.Refusals.{side_facts}
 use Rattle.validate.specs.declared.ViewLengths.{ViewLengths}
 use Rattle.validate.specs.declared.Lengths.{Lengths}
 use Rattle.validate.specs.Numbers.{view_fits, planes_fit}
+
+pub side_most : (n : ℕ) → side_ok n ≡ true → n ≤ 4096
+side_most n e = (side_facts n e).most
 
 pub record ViewSized (n m : ℕ) (l : ViewLengths) : Type 0 where
   pub texture : l.texture ≡ n

@@ -1,6 +1,8 @@
 -- The tests over numbers are the model's, at the lengths of the planes.
 --     common_number_lem                  1, 2, 3, 4, 20, then the rest
---     steps_number, early_number_lem     these, 6, 5, then the candidate's own number, step by step
+--     steps_number                   these, 6, 5, then the candidate's own number, step by step
+--     common_refused, own_refused, ..  the same of a refusal at each step
+--     early_number_lem               the three steps are the model's list
 --     numbers_before                 1, 2, 3, 4, 20 decide before the rest
 --     sides_passed                   where none of them applies, w and h are at most 4,096
 use Prim.Native.Nat.{ℕ, ◌*◌, ◌≤◌}
@@ -15,11 +17,12 @@ use Rattle.model.specs.declared.Tear.{Tear}
 use Rattle.model.specs.declared.Settings.{Settings}
 use Rattle.model.specs.declared.Block.{Block}
 use Rattle.model.specs.declared.Candidate.{Candidate}
+use Rattle.model.specs.declared.Refusal.{Refusal}
 use Rattle.model.specs.Marks.{mark_bytes}
 use Rattle.model.specs.Planes.{Pictures, Depths, Held, view_of, texture_of, depths_of}
-use Rattle.model.specs.Refusals.{side_ok, size_ok, pictures_sized, depths_sized, held_sized, planes_sized, table_ok, tear_ok, tables_ok, block_ok, view_ok, candidate_then, common_then, own_then, early_number}
+use Rattle.model.specs.Refusals.{number_of, side_ok, size_ok, pictures_sized, depths_sized, held_sized, planes_sized, table_ok, tear_ok, tables_ok, block_ok, view_ok, candidate_then, common_then, own_then, early_number}
 use Rattle.model.proofs.Choice.{bool_cases, and_true, and_left, and_right}
-use Rattle.model.proofs.Refusals.{unless_true, side_facts, Before, none_before, one_before, then_before, pictures_yes, pictures_facts, depths_yes, depths_facts, held_yes, held_facts}
+use Rattle.model.proofs.Refusals.{unless_true, side_facts, refused_before, Before, none_before, one_before, then_before, pictures_yes, pictures_facts, depths_yes, depths_facts, held_yes, held_facts}
 use Rattle.validate.specs.declared.ViewLengths.{ViewLengths}
 use Rattle.validate.specs.declared.Lengths.{Lengths}
 use Rattle.validate.specs.Numbers.{planes_fit, common_number, sides, own_number}
@@ -101,6 +104,21 @@ pub steps_number : (w h : ℕ) (left right : List ℕ) (share : ℕ) (tear : Tea
 steps_number w h left right share tear l v b c n k m r e q u =
     step_before (early_before w h left right share tear l v b) (candidate_then b c n 0) m r
     (step_before (numbers_before w h left right share tear l) (own_number w h v b 0) k m e q) u
+
+-- GET and SET step by step: what the first step turned down, what the second did, and what is left to the third
+module _ (w h : ℕ) (left right : List ℕ) (share : ℕ) (tear : Tear) (l : Lengths) (v : ℕ) (b : Block) (rest : ℕ) where
+  pub common_refused : (r : Refusal) → number_of r ≡ common_number w h left right share tear l 0 → number_of r ≡ common_number w h left right share tear l (own_number w h v b rest)
+  common_refused r e = refused_before (numbers_before w h left right share tear l) r _ e
+
+  pub own_refused : (r : Refusal) → 0 ≡ common_number w h left right share tear l 0 → number_of r ≡ own_number w h v b 0 → number_of r ≡ common_number w h left right share tear l (own_number w h v b rest)
+  own_refused r e q =
+      refused_before (early_before w h left right share tear l v b) r _
+      (q ∙ sym ((numbers_before w h left right share tear l).rest _ (sym e)))
+
+  pub none_refused : 0 ≡ common_number w h left right share tear l 0 → 0 ≡ own_number w h v b 0 → common_number w h left right share tear l (own_number w h v b rest) ≡ rest
+  none_refused e q =
+      (early_before w h left right share tear l v b).rest rest
+      ((numbers_before w h left right share tear l).rest _ (sym e) ∙ sym q)
 
 pub early_number_lem : (s : Settings) (p : Pictures) (d : Depths) (h : Held) (v : ℕ) (b : Block) (c : Candidate) (n : ℕ) → common_number s.w s.h s.left s.right s.share s.tear (lengths_of p d h) (own_number s.w s.h v b (candidate_then b c n 0)) ≡ early_number s p d h v b c n
 unfolding own_then own_number block_ok

@@ -1,11 +1,11 @@
 // The tests that several calls have in common, in the order of their lists. Of a plane they look at its length alone; the entries of a picture are a test apart, which only OPEN and MOVE make.
 #![tactic(auto)]
 
-ghost use Rattle.std.specs.Prelude.{◌≡◌, cond, ◌+◌, ◌<◌, ◌≤◌, eqb};
-ghost use Rattle.model.specs.Refusals.{number_of, block_ok, candidate_then};
+ghost use Rattle.std.specs.Prelude.{◌≡◌, ◌≤◌};
+ghost use Rattle.model.specs.Refusals.{answer_number, block_ok};
 ghost use Rattle.validate.specs.Numbers.{view_fits, planes_fit, common_number, sides, own_number};
 
-use model::{Block, Candidate, Refusal, Tear};
+use model::{Block, Refusal, Tear};
 
 // The lengths of the planes of one view.
 #[derive(Drop)]
@@ -28,49 +28,34 @@ pub struct Lengths {
 }
 
 // Every plane of a view has its exact length: n entries, and m bytes of marks.
+#[tactic(auto, unfolding(crate::specs::Numbers::view_fits))]
 fn view_sized(n: usize, m: usize, lengths: ViewLengths) -> bool
     ensures { result ≡ view_fits n m lengths }
 {
-    if lengths.texture != n {
-        return false;
-    }
-    if lengths.depths != n {
-        return false;
-    }
-    if lengths.samples != n {
-        return false;
-    }
-    if lengths.fronts != n {
-        return false;
-    }
-    if lengths.limits != n {
-        return false;
-    }
-    lengths.marks == m
+    lengths.texture == n
+        && lengths.depths == n
+        && lengths.samples == n
+        && lengths.fronts == n
+        && lengths.limits == n
+        && lengths.marks == m
 }
 
 // Every plane of a session of w columns by h rows has its exact length.
+#[tactic(auto, unfolding(crate::specs::Numbers::planes_fit))]
 fn planes_sized(w: u32, h: u32, lengths: Lengths) -> bool
     requires { (w ≤ 4096) × (h ≤ 4096) }
     ensures { result ≡ planes_fit w h lengths }
 {
     let n = (w as usize) * (h as usize);
     let m = (w as usize + 7) / 8 * (h as usize);
-    let left = lengths.left;
-    if !view_sized(n, m, left) {
-        return false;
-    }
-    let right = lengths.right;
-    if !view_sized(n, m, right) {
-        return false;
-    }
-    if lengths.reference != n {
-        return false;
-    }
-    lengths.combined == n
+    view_sized(n, m, lengths.left)
+        && view_sized(n, m, lengths.right)
+        && lengths.reference == n
+        && lengths.combined == n
 }
 
 // 1, 2, 3, 4 or 20, the first that applies.
+#[tactic(auto, using(crate::proofs::Facts::side_most), unfolding(crate::specs::Numbers::common_number))]
 pub fn common(
     w: u32,
     h: u32,
@@ -79,76 +64,47 @@ pub fn common(
     share: u8,
     tear: Tear,
     lengths: Lengths,
-) -> Refusal
-    ensures { number_of result ≡ common_number w h left.now right.now share tear lengths 0 }
+) -> Result<(), Refusal>
+    ensures { answer_number result ≡ common_number w h left.now right.now share tear lengths 0 }
 {
-    if !ranges::side_ok(w) {
-        return Refusal::Size;
-    }
-    if !ranges::side_ok(h) {
-        return Refusal::Size;
+    if !ranges::side_ok(w) || !ranges::side_ok(h) {
+        return Err(Refusal::Size);
     }
     if !planes_sized(w, h, lengths) {
-        return Refusal::Plane;
+        return Err(Refusal::Plane);
     }
     if !ranges::tables_ok(left, right) {
-        return Refusal::Table;
+        return Err(Refusal::Table);
     }
     if 64 < share {
-        return Refusal::Share;
+        return Err(Refusal::Share);
     }
     if !ranges::tear_ok(tear) {
-        return Refusal::Gap;
+        return Err(Refusal::Gap);
     }
-    Refusal::None
+    Ok(())
 }
 
 // The block has a width and a height and reaches past no edge. The edges are summed in 64 bits, where every sum fits.
+#[tactic(auto, unfolding(model::specs::Refusals::block_ok))]
 fn block_ok(w: u32, h: u32, block: Block) -> bool
     ensures { result ≡ block_ok (sides w h) block }
 {
-    if block.width < 1 {
-        return false;
-    }
-    if (w as u64) < (block.column as u64) + (block.width as u64) {
-        return false;
-    }
-    if block.height < 1 {
-        return false;
-    }
-    (block.row as u64) + (block.height as u64) <= (h as u64)
+    let right = u64::from(block.column) + u64::from(block.width);
+    let bottom = u64::from(block.row) + u64::from(block.height);
+    0 < block.width && right <= u64::from(w) && 0 < block.height && bottom <= u64::from(h)
 }
 
 // 6 or 5, the first that applies.
-pub fn own(w: u32, h: u32, view: u32, block: Block) -> Refusal
-    ensures { number_of result ≡ own_number w h view block 0 }
+#[tactic(auto, unfolding(crate::specs::Numbers::own_number))]
+pub fn own(w: u32, h: u32, view: u32, block: Block) -> Result<(), Refusal>
+    ensures { answer_number result ≡ own_number w h view block 0 }
 {
     if 1 < view {
-        return Refusal::View;
+        return Err(Refusal::View);
     }
     if !block_ok(w, h, block) {
-        return Refusal::Bounds;
+        return Err(Refusal::Bounds);
     }
-    Refusal::None
-}
-
-// What `common` refused, or else 6 or 5. GET and SET go step by step, `common`, this, `with_candidate`: the compiler takes a step into GET only as long as it is
-// small.
-pub fn with_block(common: Refusal, w: u32, h: u32, view: u32, block: Block) -> Refusal
-    ensures { number_of result ≡ cond (eqb (number_of common) 0) (own_number w h view block 0) (number_of common) }
-{
-    if model::number(common) != 0 {
-        return common;
-    }
-    own(w, h, view, block)
-}
-
-// What was refused before, or else the candidate's own number.
-pub fn with_candidate(before: Refusal, block: Block, candidate: Candidate, n: usize) -> Refusal
-    ensures { number_of result ≡ cond (eqb (number_of before) 0) (candidate_then block candidate n 0) (number_of before) }
-{
-    if model::number(before) != 0 {
-        return before;
-    }
-    candidates::candidate_refusal(block, candidate, n)
+    Ok(())
 }

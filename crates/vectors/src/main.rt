@@ -2,35 +2,54 @@
 // their replies; the first is document 01's session. rust/tests/vectors.rs has many more cases of the library as it is linked.
 #![tactic(auto)]
 
-use model::{Block, Candidate, Count, Refusal, Report, Settings, Tear};
+use model::{Block, Candidate, Edited, Refusal, Report, Settings, Tear};
 use std::io;
 
 // Prints a call and the number of its refusal, 0 where it is accepted.
-fn say_refusal(rt: &impl Print, call: &str, refusal: Refusal) -> io::Result<()> {
-    let number = model::number(refusal);
+fn say_number(rt: &impl Print, call: &str, number: u32) -> io::Result<()> {
     print!(rt; "{call}{number}")
 }
 
-// Prints what a call that has a total answered.
-fn say_reply(rt: &impl Print, call: &str, refusal: Refusal, total: u64) -> io::Result<()> {
-    say_refusal(rt, call, refusal)?;
-    print!(rt; " total {total}")
+// Prints what a call that answers settings answered, and gives the settings that its caller has then.
+fn say_settings(
+    rt: &impl Print,
+    call: &str,
+    answer: Result<Settings, Refusal>,
+    given: Settings,
+) -> io::Result<Settings> {
+    let (number, next) = match answer {
+        Ok(next) => (0, next),
+        Err(refusal) => (u32::from(refusal), given),
+    };
+    say_number(rt, call, number)?;
+    print!(rt; " total {}", next.total)?;
+    Ok(next)
+}
+
+// The same of SET and TAKE BACK.
+fn say_edited(
+    rt: &impl Print,
+    call: &str,
+    answer: Result<Edited, Refusal>,
+    given: Settings,
+) -> io::Result<Settings> {
+    say_settings(rt, call, answer.map(|edited| edited.settings), given)
 }
 
 // Prints what CHECK reports.
-fn say_report(rt: &impl Print, report: Report) -> io::Result<()> {
-    match report {
-        Report::Refused(refusal) => say_refusal(rt, ", check ", refusal),
-        Report::Sound => print!(rt; ", check sound"),
-        _ => print!(rt; ", check not sound"),
+fn say_report(rt: &impl Print, answer: Result<Report, Refusal>) -> io::Result<()> {
+    match answer {
+        Err(refusal) => say_number(rt, ", check ", u32::from(refusal)),
+        Ok(Report::Sound) => print!(rt; ", check sound"),
+        Ok(_) => print!(rt; ", check not sound"),
     }
 }
 
 // Prints what HOLES counted.
-fn say_count(rt: &impl Print, answer: Count) -> io::Result<()> {
+fn say_count(rt: &impl Print, answer: Result<u64, Refusal>) -> io::Result<()> {
     match answer {
-        Count::Refused(refusal) => say_refusal(rt, ", holes refused ", refusal),
-        Count::Holes(count) => print!(rt; ", holes {count}"),
+        Err(refusal) => say_number(rt, ", holes refused ", u32::from(refusal)),
+        Ok(count) => print!(rt; ", holes {count}"),
     }
 }
 
@@ -44,271 +63,225 @@ fn column() -> Block {
     }
 }
 
-// OPEN. This and the next calls are over arrays: of an array that a call wrote, the length is to be proved where it is lent as a slice.
-fn opened(
-    rt: &impl Print,
-    given: Settings,
-    row: &[u16],
-    left_depths: &[u8; 4],
-    right_depths: &[u8; 4],
-    left_samples: &mut [u16; 4],
-    left_fronts: &mut [u8; 4],
-    left_limits: &mut [i16; 4],
-    left_marks: &mut [u8; 1],
-    right_samples: &mut [u16; 4],
-    right_fronts: &mut [u8; 4],
-    right_limits: &mut [i16; 4],
-    right_marks: &mut [u8; 1],
-    combined: &mut [u16; 4],
-    journal: &mut [u32; 8],
-) -> io::Result<Settings> {
-    let answer = open::open(
-        given,
-        row,
-        row,
-        row,
-        left_depths,
-        right_depths,
-        left_samples,
-        left_fronts,
-        left_limits,
-        left_marks,
-        right_samples,
-        right_fronts,
-        right_limits,
-        right_marks,
-        combined,
-        journal,
-    );
-    let next = answer.settings;
-    let refusal = answer.refusal;
-    say_reply(rt, ", open ", refusal, next.total)?;
-    Ok(next)
+// What a view holds of one row of four columns.
+#[derive(Drop)]
+struct View {
+    depths: [u8; 4],
+    samples: [u16; 4],
+    fronts: [u8; 4],
+    limits: [i16; 4],
+    marks: [u8; 1],
 }
 
-// GET of depth 4, with the total that it leads to.
-fn tried(
-    rt: &impl Print,
-    given: Settings,
-    row: &[u16],
-    left_depths: &[u8; 4],
-    right_depths: &[u8; 4],
-    left_samples: &[u16; 4],
-    left_fronts: &[u8; 4],
-    left_limits: &[i16; 4],
-    left_marks: &[u8; 1],
-    right_samples: &[u16; 4],
-    right_fronts: &[u8; 4],
-    right_limits: &[i16; 4],
-    right_marks: &[u8; 1],
-    combined: &[u16; 4],
-    none: &[u8],
-) -> io::Result<()> {
-    let tear = given.tear;
-    let answer = decide::decide(
-        given.w,
-        given.h,
-        &given.left,
-        &given.right,
-        given.share,
-        given.tolerance,
-        tear,
-        given.total,
-        row,
-        row,
-        row,
-        left_depths,
-        right_depths,
-        left_samples,
-        left_fronts,
-        left_limits,
-        left_marks,
-        right_samples,
-        right_fronts,
-        right_limits,
-        right_marks,
-        combined,
-        0,
-        column(),
-        Candidate::Flat(4),
-        none,
-    );
-    let refusal = answer.refusal;
-    say_reply(rt, ", get ", refusal, answer.total)
+impl View {
+    // Depths of 0, and room for the rest.
+    fn new() -> View {
+        View {
+            depths: [0; 4],
+            samples: [0; 4],
+            fronts: [0; 4],
+            limits: [0; 4],
+            marks: [0; 1],
+        }
+    }
 }
 
-// SET of depth 5.
-fn written(
-    rt: &impl Print,
-    given: Settings,
-    row: &[u16],
-    left_depths: &mut [u8; 4],
-    right_depths: &mut [u8; 4],
-    left_samples: &mut [u16; 4],
-    left_fronts: &mut [u8; 4],
-    left_limits: &mut [i16; 4],
-    left_marks: &mut [u8; 1],
-    right_samples: &mut [u16; 4],
-    right_fronts: &mut [u8; 4],
-    right_limits: &mut [i16; 4],
-    right_marks: &mut [u8; 1],
-    combined: &mut [u16; 4],
-    journal: &mut [u32; 8],
-    none: &[u8],
-) -> io::Result<Settings> {
-    let answer = set::set(
-        given,
-        row,
-        row,
-        row,
-        left_depths,
-        right_depths,
-        left_samples,
-        left_fronts,
-        left_limits,
-        left_marks,
-        right_samples,
-        right_fronts,
-        right_limits,
-        right_marks,
-        combined,
-        journal,
-        0,
-        column(),
-        Candidate::Flat(5),
-        none,
-    );
-    let next = answer.settings;
-    let refusal = answer.refusal;
-    say_reply(rt, ", set ", refusal, next.total)?;
-    Ok(next)
+// The planes of a session, and its journal.
+#[derive(Drop)]
+struct Planes {
+    left: View,
+    right: View,
+    combined: [u16; 4],
+    journal: [u32; 8],
 }
 
-// CHECK, and HOLES of the left view.
-fn checked(
-    rt: &impl Print,
-    given: Settings,
-    row: &[u16],
-    left_depths: &[u8; 4],
-    right_depths: &[u8; 4],
-    left_samples: &[u16; 4],
-    left_fronts: &[u8; 4],
-    left_limits: &[i16; 4],
-    left_marks: &[u8; 1],
-    right_samples: &[u16; 4],
-    right_fronts: &[u8; 4],
-    right_limits: &[i16; 4],
-    right_marks: &[u8; 1],
-    combined: &[u16; 4],
-) -> io::Result<()> {
-    let report = checks::check(
-        given,
-        row,
-        row,
-        row,
-        left_depths,
-        right_depths,
-        left_samples,
-        left_fronts,
-        left_limits,
-        left_marks,
-        right_samples,
-        right_fronts,
-        right_limits,
-        right_marks,
-        combined,
-    );
-    say_report(rt, report)?;
-    say_count(rt, holes::holes(given, 0, left_marks, right_marks))
+// Each call is a method of its own: in one function their proof is several times as long.
+impl Planes {
+    fn new() -> Planes {
+        Planes {
+            left: View::new(),
+            right: View::new(),
+            combined: [0; 4],
+            journal: [0; 8],
+        }
+    }
+
+    // OPEN.
+    fn opened(&mut self, rt: &impl Print, given: Settings, row: &[u16]) -> io::Result<Settings> {
+        let answer = open::open(
+            given,
+            row,
+            row,
+            row,
+            &self.left.depths,
+            &self.right.depths,
+            &mut self.left.samples,
+            &mut self.left.fronts,
+            &mut self.left.limits,
+            &mut self.left.marks,
+            &mut self.right.samples,
+            &mut self.right.fronts,
+            &mut self.right.limits,
+            &mut self.right.marks,
+            &mut self.combined,
+            &mut self.journal,
+        );
+        say_settings(rt, ", open ", answer, given)
+    }
+
+    // GET of depth 4, with the total that it leads to.
+    fn tried(&self, rt: &impl Print, given: Settings, row: &[u16], none: &[u8]) -> io::Result<()> {
+        let tear = given.tear;
+        let answer = decide::decide(
+            given.w,
+            given.h,
+            &given.left,
+            &given.right,
+            given.share,
+            given.tolerance,
+            tear,
+            given.total,
+            row,
+            row,
+            row,
+            &self.left.depths,
+            &self.right.depths,
+            &self.left.samples,
+            &self.left.fronts,
+            &self.left.limits,
+            &self.left.marks,
+            &self.right.samples,
+            &self.right.fronts,
+            &self.right.limits,
+            &self.right.marks,
+            &self.combined,
+            0,
+            column(),
+            Candidate::Flat(4),
+            none,
+        );
+        let (number, total) = match answer {
+            Ok(decision) => (0, decision.total),
+            Err(refusal) => (u32::from(refusal), given.total),
+        };
+        say_number(rt, ", get ", number)?;
+        print!(rt; " total {total}")
+    }
+
+    // SET of depth 5.
+    fn written(
+        &mut self,
+        rt: &impl Print,
+        given: Settings,
+        row: &[u16],
+        none: &[u8],
+    ) -> io::Result<Settings> {
+        let answer = set::set(
+            given,
+            row,
+            row,
+            row,
+            &mut self.left.depths,
+            &mut self.right.depths,
+            &mut self.left.samples,
+            &mut self.left.fronts,
+            &mut self.left.limits,
+            &mut self.left.marks,
+            &mut self.right.samples,
+            &mut self.right.fronts,
+            &mut self.right.limits,
+            &mut self.right.marks,
+            &mut self.combined,
+            &mut self.journal,
+            0,
+            column(),
+            Candidate::Flat(5),
+            none,
+        );
+        say_edited(rt, ", set ", answer, given)
+    }
+
+    // CHECK, and HOLES of the left view.
+    fn checked(&self, rt: &impl Print, given: Settings, row: &[u16]) -> io::Result<()> {
+        let report = checks::check(
+            given,
+            row,
+            row,
+            row,
+            &self.left.depths,
+            &self.right.depths,
+            &self.left.samples,
+            &self.left.fronts,
+            &self.left.limits,
+            &self.left.marks,
+            &self.right.samples,
+            &self.right.fronts,
+            &self.right.limits,
+            &self.right.marks,
+            &self.combined,
+        );
+        say_report(rt, report)?;
+        say_count(
+            rt,
+            holes::holes(given, 0, &self.left.marks, &self.right.marks),
+        )
+    }
+
+    // TAKE BACK.
+    fn taken(&mut self, rt: &impl Print, given: Settings, row: &[u16]) -> io::Result<Settings> {
+        let answer = take_back::take_back(
+            given,
+            row,
+            row,
+            row,
+            &mut self.left.depths,
+            &mut self.right.depths,
+            &mut self.left.samples,
+            &mut self.left.fronts,
+            &mut self.left.limits,
+            &mut self.left.marks,
+            &mut self.right.samples,
+            &mut self.right.fronts,
+            &mut self.right.limits,
+            &mut self.right.marks,
+            &mut self.combined,
+            &mut self.journal,
+        );
+        say_edited(rt, ", take back ", answer, given)
+    }
+
+    // MOVE to the same seat with another reference.
+    fn moved(
+        &mut self,
+        rt: &impl Print,
+        given: Settings,
+        row: &[u16],
+        other: &[u16],
+    ) -> io::Result<Settings> {
+        let answer = move_seat::move_seat(
+            given,
+            given,
+            row,
+            row,
+            other,
+            &self.left.depths,
+            &self.right.depths,
+            &mut self.left.samples,
+            &mut self.left.fronts,
+            &mut self.left.limits,
+            &mut self.left.marks,
+            &mut self.right.samples,
+            &mut self.right.fronts,
+            &mut self.right.limits,
+            &mut self.right.marks,
+            &mut self.combined,
+            &mut self.journal,
+        );
+        say_settings(rt, ", move ", answer, given)
+    }
 }
 
-// TAKE BACK.
-fn taken(
-    rt: &impl Print,
-    given: Settings,
-    row: &[u16],
-    left_depths: &mut [u8; 4],
-    right_depths: &mut [u8; 4],
-    left_samples: &mut [u16; 4],
-    left_fronts: &mut [u8; 4],
-    left_limits: &mut [i16; 4],
-    left_marks: &mut [u8; 1],
-    right_samples: &mut [u16; 4],
-    right_fronts: &mut [u8; 4],
-    right_limits: &mut [i16; 4],
-    right_marks: &mut [u8; 1],
-    combined: &mut [u16; 4],
-    journal: &mut [u32; 8],
-) -> io::Result<Settings> {
-    let answer = take_back::take_back(
-        given,
-        row,
-        row,
-        row,
-        left_depths,
-        right_depths,
-        left_samples,
-        left_fronts,
-        left_limits,
-        left_marks,
-        right_samples,
-        right_fronts,
-        right_limits,
-        right_marks,
-        combined,
-        journal,
-    );
-    let next = answer.settings;
-    let refusal = answer.refusal;
-    say_reply(rt, ", take back ", refusal, next.total)?;
-    Ok(next)
-}
-
-// MOVE to the same seat with another reference.
-fn moved(
-    rt: &impl Print,
-    given: Settings,
-    row: &[u16],
-    other: &[u16],
-    left_depths: &[u8; 4],
-    right_depths: &[u8; 4],
-    left_samples: &mut [u16; 4],
-    left_fronts: &mut [u8; 4],
-    left_limits: &mut [i16; 4],
-    left_marks: &mut [u8; 1],
-    right_samples: &mut [u16; 4],
-    right_fronts: &mut [u8; 4],
-    right_limits: &mut [i16; 4],
-    right_marks: &mut [u8; 1],
-    combined: &mut [u16; 4],
-    journal: &mut [u32; 8],
-) -> io::Result<Settings> {
-    let answer = move_seat::move_seat(
-        given,
-        given,
-        row,
-        row,
-        other,
-        left_depths,
-        right_depths,
-        left_samples,
-        left_fronts,
-        left_limits,
-        left_marks,
-        right_samples,
-        right_fronts,
-        right_limits,
-        right_marks,
-        combined,
-        journal,
-    );
-    let next = answer.settings;
-    let refusal = answer.refusal;
-    say_reply(rt, ", move ", refusal, next.total)?;
-    Ok(next)
-}
-
-// A session of one row of four columns with depths of 0. Each call is a function of its own: in one function their proof is several times as long.
+// A session of one row of four columns with depths of 0.
 fn session(
     rt: &impl Print,
     given: Settings,
@@ -316,121 +289,13 @@ fn session(
     other: &[u16],
     none: &[u8],
 ) -> io::Result<()> {
-    let mut left_depths = [0u8; 4];
-    let mut right_depths = [0u8; 4];
-    let mut left_samples = [0u16; 4];
-    let mut left_fronts = [0u8; 4];
-    let mut left_limits = [0i16; 4];
-    let mut left_marks = [0u8; 1];
-    let mut right_samples = [0u16; 4];
-    let mut right_fronts = [0u8; 4];
-    let mut right_limits = [0i16; 4];
-    let mut right_marks = [0u8; 1];
-    let mut combined = [0u16; 4];
-    let mut journal = [0u32; 8];
-    let first = opened(
-        rt,
-        given,
-        row,
-        &left_depths,
-        &right_depths,
-        &mut left_samples,
-        &mut left_fronts,
-        &mut left_limits,
-        &mut left_marks,
-        &mut right_samples,
-        &mut right_fronts,
-        &mut right_limits,
-        &mut right_marks,
-        &mut combined,
-        &mut journal,
-    )?;
-    tried(
-        rt,
-        first,
-        row,
-        &left_depths,
-        &right_depths,
-        &left_samples,
-        &left_fronts,
-        &left_limits,
-        &left_marks,
-        &right_samples,
-        &right_fronts,
-        &right_limits,
-        &right_marks,
-        &combined,
-        none,
-    )?;
-    let second = written(
-        rt,
-        first,
-        row,
-        &mut left_depths,
-        &mut right_depths,
-        &mut left_samples,
-        &mut left_fronts,
-        &mut left_limits,
-        &mut left_marks,
-        &mut right_samples,
-        &mut right_fronts,
-        &mut right_limits,
-        &mut right_marks,
-        &mut combined,
-        &mut journal,
-        none,
-    )?;
-    checked(
-        rt,
-        second,
-        row,
-        &left_depths,
-        &right_depths,
-        &left_samples,
-        &left_fronts,
-        &left_limits,
-        &left_marks,
-        &right_samples,
-        &right_fronts,
-        &right_limits,
-        &right_marks,
-        &combined,
-    )?;
-    let third = taken(
-        rt,
-        second,
-        row,
-        &mut left_depths,
-        &mut right_depths,
-        &mut left_samples,
-        &mut left_fronts,
-        &mut left_limits,
-        &mut left_marks,
-        &mut right_samples,
-        &mut right_fronts,
-        &mut right_limits,
-        &mut right_marks,
-        &mut combined,
-        &mut journal,
-    )?;
-    moved(
-        rt,
-        third,
-        row,
-        other,
-        &left_depths,
-        &right_depths,
-        &mut left_samples,
-        &mut left_fronts,
-        &mut left_limits,
-        &mut left_marks,
-        &mut right_samples,
-        &mut right_fronts,
-        &mut right_limits,
-        &mut right_marks,
-        &mut combined,
-        &mut journal,
-    )?;
+    let mut planes = Planes::new();
+    let first = planes.opened(rt, given, row)?;
+    planes.tried(rt, first, row, none)?;
+    let second = planes.written(rt, first, row, none)?;
+    planes.checked(rt, second, row)?;
+    let third = planes.taken(rt, second, row)?;
+    planes.moved(rt, third, row, other)?;
     Ok(())
 }
 
@@ -440,7 +305,7 @@ fn drawn(rt: &impl Print, given: Settings, row: &[u16]) -> io::Result<()> {
     let mut samples = [0u16; 4];
     let mut marks = [0u8; 1];
     let mut fronts = [0u8; 4];
-    let refusal = render::render(
+    let answer = render::render(
         given,
         0,
         row,
@@ -449,7 +314,11 @@ fn drawn(rt: &impl Print, given: Settings, row: &[u16]) -> io::Result<()> {
         &mut marks,
         &mut fronts,
     );
-    say_refusal(rt, ": render ", refusal)
+    let number = match answer {
+        Ok(()) => 0,
+        Err(refusal) => u32::from(refusal),
+    };
+    say_number(rt, ": render ", number)
 }
 
 // Settings with the tables that document 01's session reads, whose last entry is given, and a total that OPEN ignores.
@@ -459,16 +328,13 @@ fn settings(w: u32, h: u32, entry: u16, share: u8, gap: u8, distance: u8) -> Set
     table[5] = 5;
     table[255] = entry;
     Settings {
-        w: w,
-        h: h,
+        w,
+        h,
         left: table,
         right: table,
-        share: share,
+        share,
         tolerance: 255,
-        tear: Tear {
-            gap: gap,
-            distance: distance,
-        },
+        tear: Tear { gap, distance },
         total: 7,
     }
 }

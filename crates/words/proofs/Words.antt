@@ -1,5 +1,5 @@
 -- Holes counted by the word.
---     shl_byte, joined_fits    what the code's arithmetic asks: no byte is shifted out, and eight joined bytes are a word
+--     joined_more, joined_fits   what the code's arithmetic asks: no byte is shifted out, and eight joined bytes are a word
 --     joined_join              bytes are joined in two parts
 --     joined_holes             the ones among the first m bits of joined mark bytes are the marks of 1 at m positions
 --     word_holes               and those of eight joined bytes at 64
@@ -8,7 +8,7 @@ use mathlib.Core.Path.{◌≡◌, refl, sym, ap, ◌∙◌}
 use mathlib.Core.Logic.{⊎_elim}
 use mathlib.Core.List.{List}
 use native.Mathlib.Nat.{add-zero, add-suc, add_assoc, add-mul, mul_assoc, mod-eq_of_lt, mod-lt, lt_of_lt_of_le, suc-mul, mul-le-mul_right, not-suc-le-zero, le_of_suc-le-suc}
-use native.Mathlib.Numerals.{one-add}
+use native.Mathlib.Numerals.{add-one, one-add}
 use native.Mathlib.Omega.{arith}
 use lib.Count.{ones, ones_cat}
 use lib.ListN.{get_or}
@@ -24,7 +24,7 @@ abbrev pub Bytes : List ℕ → Type 0
 Bytes row = (i : ℕ) → get_or row i 0 < 256
 
 -- a byte shifted into a word loses nothing
-pub shl_byte : (b n : ℕ) → b < 256 → n < 8 → b * 2 ^ (8 * n) % 2 ^ 64 ≡ b * 2 ^ (8 * n)
+shl_byte : (b n : ℕ) → b < 256 → n < 8 → b * 2 ^ (8 * n) % 2 ^ 64 ≡ b * 2 ^ (8 * n)
 shl_byte b n hb hn = shl_exact 8 (8 * n) 64 hb (omega arith)
 
 -- the next byte stands above the others
@@ -54,6 +54,11 @@ joined_lt row h j (suc n) =
 
 pub joined_fits : (row : List ℕ) → Bytes row → (j n : ℕ) → n ≤ 8 → joined row j n < 2 ^ 64
 joined_fits row h j n l = let e : 8 * n ≤ 64 = omega arith in lt_of_lt_of_le (joined_lt row h j n) (pow_mono e)
+
+-- one more byte is joined, and none of it shifted out
+pub joined_more : (row : List ℕ) → Bytes row → (j k v b : ℕ) → k < 8 → v ≡ joined row j k → b ≡ get_or row (j + k) 0 → v + b * 2 ^ (8 * k) % 2 ^ 64 ≡ joined row j (k + 1)
+joined_more row h j k v b lt p q =
+    rw (p, q, shl_byte (get_or row (j + k) 0) k (h (j + k)) lt, add-one k) (omega (arith, joined_next row j k))
 
 -- bits below those of the last byte
 bit_low : (b x k m : ℕ) → x < 2 ^ k → m < k → bit_of (b * 2 ^ k + x) m ≡ bit_of x m

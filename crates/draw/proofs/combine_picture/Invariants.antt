@@ -1,13 +1,5 @@
-use Prim.Native.Nat.{◌-◌, ◌≤◌}
-use mathlib.Core.Path.{◌≡◌}
-use lib.ListN.{length}
 use Rattle.draw.specs.Combination.{held_rows, PictureCombined}
 use Rattle.draw.proofs.combine_picture.Given as goal
 
 abbrev pub invariant-loop-y : goal.invariant-loop-y
-invariant-loop-y l =
-    (l.y ≤ l.h) × ((length l.combined ≡ length l.initial.combined)
-    × PictureCombined l.share l.tolerance l.w l.y (held_rows l.w l.samples0 l.fronts0 l.marks0) (held_rows l.w l.samples1 l.fronts1 l.marks1) l.reference l.combined l.total)
-
-abbrev pub decreases-loop-y : goal.decreases-loop-y
-decreases-loop-y l = l.h - l.y
+invariant-loop-y l = PictureCombined l.share l.tolerance l.w l.y (held_rows l.w l.samples0 l.fronts0 l.marks0) (held_rows l.w l.samples1 l.fronts1 l.marks1) l.reference l.combined l.total

@@ -1,12 +1,7 @@
-use mathlib.Core.Path.{◌≡◌}
-use lib.ListN.{length}
+use Rattle.model.specs.Row.{place}
 use Rattle.model.specs.Views.{seen}
-use Rattle.edits.proofs.Limits.{Written}
+use Rattle.limits.proofs.Falling.{LimitsFrom}
 use Rattle.edits.proofs.write_limits.Given as goal
 
 abbrev pub invariant-loop-c : goal.invariant-loop-c
-invariant-loop-c l =
-    Written l.table (seen l.right l.depths) l.columns l.high (seen l.right l.initial.limits) (seen l.right l.limits) l.c l.top × (length l.limits ≡ length l.initial.limits)
-
-abbrev pub decreases-loop-c : goal.decreases-loop-c
-decreases-loop-c l = l.c
+invariant-loop-c l = LimitsFrom (place l.table (seen l.right l.depths)) l.columns l.high l.top l.c (seen l.right l.initial.limits) (seen l.right l.limits)

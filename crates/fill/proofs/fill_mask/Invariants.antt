@@ -1,15 +1,8 @@
-use Prim.Native.Nat.{◌+◌, ◌-◌, ◌≤◌}
-use mathlib.Core.Bool.{cond}
-use mathlib.Core.Path.{◌≡◌}
+use Rattle.std.proofs.Common.{◌≡◌, ℕ, ◌+◌, ◌<◌, cond, get_or}
 use lib.Dec.{eqb}
-use lib.ListN.{length}
 use Rattle.model.specs.Marks.{mark_at}
-use Rattle.planes.specs.Parts.{Filled}
 use Rattle.fill.proofs.fill_mask.Given as goal
 
 abbrev pub invariant-loop-k : goal.invariant-loop-k
 invariant-loop-k l =
-    (l.k ≤ length l.initial.room) × ((length l.room ≡ length l.initial.room) × Filled 0 (λ j. cond (eqb (mark_at l.bits (l.from + j)) 1) l.value1 l.value0) 0 l.k l.initial.room l.room)
-
-abbrev pub decreases-loop-k : goal.decreases-loop-k
-decreases-loop-k l = length l.initial.room - l.k
+    (j : ℕ) → j < l.k → get_or l.room j 0 ≡ cond (eqb (mark_at l.bits (l.from + j)) 1) l.value1 l.value0

@@ -1,10 +1,9 @@
 -- what each test has shown where it passed
 use mathlib.Core.Path.{◌≡◌, sym, ◌∙◌}
 use mathlib.Core.Bool.{true, ◌&&◌}
-use borrow.Author.Tests.{le-leb, lt-leb}
 use Rattle.model.specs.Refusals.{side_ok, table_ok, tear_ok}
 use Rattle.model.proofs.Refusals.{side_facts}
-use Rattle.lists.specs.Numbers.{strip_fits, strip_number}
+use Rattle.lists.specs.Numbers.{strip_fits}
 use Rattle.lists.proofs.strip_refusal.Goals as goal
 use Rattle.lists.proofs.strip_refusal.Goals.{Else-not-side_ok, Else-not-strip_sized, Else-not-tables_ok, Else-not-tear_ok}
 
@@ -17,36 +16,9 @@ planes-ok c = sym c.strip_sized.ensures ∙ c.if-not-strip_sized.false
 tables-ok : (c : Else-not-tables_ok) → let a = c.args in (table_ok a.left.now && table_ok a.right.now) ≡ true
 tables-ok c = sym c.tables_ok.ensures ∙ c.if-not-tables_ok.false
 
-pub returns-then-not-side_ok : goal.returns-then-not-side_ok
-unfolding strip_number
-returns-then-not-side_ok c = rw (sym c.side_ok.ensures ∙ c.if-not-side_ok.true)
-
 pub strip_sized-requires : goal.strip_sized-requires
 strip_sized-requires c = (side_facts _ (w-ok (goal.at.strip_sized-requires c).Else-not-side_ok)).most
-
-pub returns-then-not-strip_sized : goal.returns-then-not-strip_sized
-unfolding strip_number
-returns-then-not-strip_sized c = rw (w-ok (goal.at.returns-then-not-strip_sized c).Else-not-side_ok, sym c.strip_sized.ensures ∙ c.if-not-strip_sized.true)
-
-pub returns-then-not-tables_ok : goal.returns-then-not-tables_ok
-unfolding strip_number
-returns-then-not-tables_ok c = rw (w-ok (goal.at.returns-then-not-tables_ok c).Else-not-side_ok, planes-ok (goal.at.returns-then-not-tables_ok c).Else-not-strip_sized, sym c.tables_ok.ensures ∙ c.if-not-tables_ok.true)
-
-pub returns-then-not-tear_ok : goal.returns-then-not-tear_ok
-unfolding strip_number
-returns-then-not-tear_ok c =
-    rw (w-ok (goal.at.returns-then-not-tear_ok c).Else-not-side_ok, planes-ok (goal.at.returns-then-not-tear_ok c).Else-not-strip_sized, tables-ok (goal.at.returns-then-not-tear_ok c).Else-not-tables_ok, sym c.tear_ok.ensures ∙ c.if-not-tear_ok.true)
 
 -- what is left once the tear has passed
 tear-passed : (c : Else-not-tear_ok) → tear_ok c.args.tear ≡ true
 tear-passed c = sym c.tear_ok.ensures ∙ c.if-not-tear_ok.false
-
-pub returns-then-view-gt1 : goal.returns-then-view-gt1
-unfolding strip_number
-returns-then-view-gt1 c =
-    rw (w-ok (goal.at.returns-then-view-gt1 c).Else-not-side_ok, planes-ok (goal.at.returns-then-view-gt1 c).Else-not-strip_sized, tables-ok (goal.at.returns-then-view-gt1 c).Else-not-tables_ok, tear-passed (goal.at.returns-then-view-gt1 c).Else-not-tear_ok, lt-leb _ _ c.if-view-gt1.true)
-
-pub returns : goal.returns
-unfolding strip_number
-returns c =
-    rw (w-ok (goal.at.returns c).Else-not-side_ok, planes-ok (goal.at.returns c).Else-not-strip_sized, tables-ok (goal.at.returns c).Else-not-tables_ok, tear-passed (goal.at.returns c).Else-not-tear_ok, le-leb _ _ c.if-view-gt1.false)

@@ -1,6 +1,7 @@
 -- `luphwezane::luph_raw_get` answers what GET promises.
 use mathlib.Core.Path.{sym}
 use lib.Seq.{length-take-le}
+use Rattle.judge.specs.Judged.{verdict}
 use Rattle.shape.specs.Shapes.{bytes_of}
 use Rattle.decide.specs.Decided.{answer_of}
 use Rattle.luphwezane.proofs.luph_raw_get.Goals as goal
@@ -12,7 +13,7 @@ pub returns : goal.returns
 unfolding bytes_of
 returns c =
     record {
-      reply = answer_of c.decide-tried.result;
+      reply = answer_of (verdict c.args.total c.decide-tried.result);
       promised = rw (c.tear_of-tear.ensures, c.candidate_of.ensures, c.lent-n.ensures.0) at c.decide-tried.ensures.answer;
-      told = c.tried.ensures;
+      told = c.tried.ensures c.args.total;
     }

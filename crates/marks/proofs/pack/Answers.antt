@@ -9,5 +9,5 @@ use Rattle.marks.proofs.pack.Goals as goal
 pub returns : goal.returns
 returns c =
     c.put_marks.ensures
-    ∙ rw (c.clear.ensures, c.requires.row_len.0)
+    ∙ rw (c.fill.ensures.after (λ _ e. e), c.requires.row_len.0)
     (put_cleared (mark_bytes (length c.args.flags.now)) c.args.flags.now c.requires.by_index (omega arith))

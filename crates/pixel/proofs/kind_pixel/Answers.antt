@@ -11,12 +11,6 @@ use Rattle.signed.proofs.Signed.{read_back}
 use Rattle.pixel.specs.Pairs.{kind_pixel}
 use Rattle.pixel.proofs.kind_pixel.Goals as goal
 
-pub returns-in-minus2147483648-to-0 : goal.returns-in-minus2147483648-to-0
-unfolding kind_pixel kind_of
-returns-in-minus2147483648-to-0 c =
-    let h : lt_z c.gap_of-gap.result (pos 1) ≡ true = rw (read_back w32 c.gap_of-gap.result c.gap_of-gap.type_inv) at c.in-minus2147483648-to-0.if-gap-lt1-own.true in
-    rw (← c.gap_of-gap.ensures, h, c.sample_at.ensures)
-
 pub returns-then-tear-gap : goal.returns-then-tear-gap
 unfolding kind_pixel kind_of
 returns-then-tear-gap c =

@@ -12,13 +12,13 @@ use Rattle.pixel.proofs.mix.Goals as goal
 pub overflow_sub-e : goal.overflow_sub-e
 overflow_sub-e c = omega (arith, entry_right (length c.args.texture.now) c.args.c c.if-right.true)
 
-pub between-requires : goal.between-requires
-between-requires c =
-    let e = entry_right (length c.args.texture.now) c.args.c c.if-right.true in record { k_bound = omega arith; c_in_bounds = (omega arith, c.requires.k_bound.1) }
+pub between-requires-clause-c_in_bounds : goal.between-requires-clause-c_in_bounds
+between-requires-clause-c_in_bounds c =
+    let e = entry_right (length c.args.texture.now) c.args.c c.if-right.true in (omega arith, c.requires.k_bound.1)
 
-pub between-requires-else-right : goal.between-requires-else-right
-between-requires-else-right c =
-    let e = entry_left (length c.args.texture.now) c.args.c c.if-right.false in record { k_bound = c.requires.k_bound.0; c_in_bounds = (omega arith, c.requires.k_bound.1) }
+pub between-requires-else-right-clause-c_in_bounds : goal.between-requires-else-right-clause-c_in_bounds
+between-requires-else-right-clause-c_in_bounds c =
+    let e = entry_left (length c.args.texture.now) c.args.c c.if-right.false in (omega arith, c.requires.k_bound.1)
 
 pub returns-then-right : goal.returns-then-right
 returns-then-right c =

@@ -1,32 +1,53 @@
-use borrow.Author.Tests.{eq-eqb, ne_eqb}
+-- `render::render` keeps RENDER's promise, refused and drawn.
 use mathlib.Core.Bool.{true, false}
+use borrow.Author.Tests.{eq-eqb, ne_eqb}
+use Rattle.std.proofs.Common.{rules}
 use Rattle.model.specs.Planes.{strip}
-use Rattle.render.proofs.Strips.{accepted_at, refused, ready_strip, samples_fit, marks_fit, fronts_fit, drawn}
+use Rattle.render.proofs.Strips.{AcceptedAt, accepted_at, refused, ready_strip, fit, drawn}
 use Rattle.render.proofs.render.Goals as goal
+use Rattle.render.proofs.render.Goals.{In_ok-strip_refusal}
 
-pub returns-then-number-ne0 : goal.returns-then-number-ne0
-returns-then-number-ne0 c =
-    let x = strip c.args.samples.now c.args.marks.now c.args.fronts.now in
-    refused c.args.settings c.args.view c.args.texture.now c.args.depths.now x c.strip_refusal-refusal.result c.strip_refusal-refusal.ensures c.number.ensures c.if-number-ne0.true
+passed : (c : In_ok-strip_refusal) → let a = c.args in AcceptedAt a.settings a.view a.texture.now a.depths.now (strip a.samples.now a.marks.now a.fronts.now)
+passed c =
+    let a = c.args in
+    accepted_at a.settings a.view a.texture.now a.depths.now (strip a.samples.now a.marks.now a.fronts.now) c.in_ok-strip_refusal.ensures
+
+pub returns-in_err-strip_refusal : goal.returns-in_err-strip_refusal
+returns-in_err-strip_refusal c =
+    let a = c.args in
+    let x = strip a.samples.now a.marks.now a.fronts.now in
+    search (rules, refused a.settings a.view a.texture.now a.depths.now x c.in_err-strip_refusal.field-0.0 c.in_err-strip_refusal.ensures)
 
 pub draw_strip-requires : goal.draw_strip-requires
 draw_strip-requires c =
-    let x = strip c.args.samples.now c.args.marks.now c.args.fronts.now in
-    let ok = accepted_at c.args.settings c.args.view c.args.texture.now c.args.depths.now x c.strip_refusal-refusal.result c.strip_refusal-refusal.ensures c.number.ensures c.if-number-ne0.false in record { ready = ready_strip c.args.settings c.args.view c.args.texture.now c.args.depths.now x ok c.args.settings.right ok.right_table; samples_len = (samples_fit c.args.settings c.args.view c.args.texture.now c.args.depths.now x ok, (marks_fit c.args.settings c.args.view c.args.texture.now c.args.depths.now x ok, fronts_fit c.args.settings c.args.view c.args.texture.now c.args.depths.now x ok)) }
+    let a = c.args in
+    let x = strip a.samples.now a.marks.now a.fronts.now in
+    let ok = passed (goal.at.draw_strip-requires c).In_ok-strip_refusal in
+    record {
+      ready = ready_strip a.settings a.view a.texture.now a.depths.now x ok _ ok.right_table;
+      samples_len = fit a.settings a.view a.texture.now a.depths.now x ok;
+    }
 
 pub draw_strip-requires-else-view-eq1 : goal.draw_strip-requires-else-view-eq1
 draw_strip-requires-else-view-eq1 c =
-    let x = strip c.args.samples.now c.args.marks.now c.args.fronts.now in
-    let ok = accepted_at c.args.settings c.args.view c.args.texture.now c.args.depths.now x c.strip_refusal-refusal.result c.strip_refusal-refusal.ensures c.number.ensures c.if-number-ne0.false in record { ready = ready_strip c.args.settings c.args.view c.args.texture.now c.args.depths.now x ok c.args.settings.left ok.left_table; samples_len = (samples_fit c.args.settings c.args.view c.args.texture.now c.args.depths.now x ok, (marks_fit c.args.settings c.args.view c.args.texture.now c.args.depths.now x ok, fronts_fit c.args.settings c.args.view c.args.texture.now c.args.depths.now x ok)) }
+    let a = c.args in
+    let x = strip a.samples.now a.marks.now a.fronts.now in
+    let ok = passed (goal.at.draw_strip-requires-else-view-eq1 c).In_ok-strip_refusal in
+    record {
+      ready = ready_strip a.settings a.view a.texture.now a.depths.now x ok _ ok.left_table;
+      samples_len = fit a.settings a.view a.texture.now a.depths.now x ok;
+    }
 
 pub returns-then-view-eq1 : goal.returns-then-view-eq1
 returns-then-view-eq1 c =
-    let x = strip c.args.samples.now c.args.marks.now c.args.fronts.now in
-    let ok = accepted_at c.args.settings c.args.view c.args.texture.now c.args.depths.now x c.strip_refusal-refusal.result c.strip_refusal-refusal.ensures c.number.ensures c.if-number-ne0.false in
-    drawn c.args.settings c.args.view c.args.texture.now c.args.depths.now x ok true _ c.strip_refusal-refusal.result c.strip_refusal-refusal.ensures c.number.ensures c.if-number-ne0.false (eq-eqb c.args.view 1 c.if-view-eq1.true) c.draw_strip.ensures
+    let a = c.args in
+    let x = strip a.samples.now a.marks.now a.fronts.now in
+    let ok = passed (goal.at.returns-then-view-eq1 c).In_ok-strip_refusal in
+    drawn a.settings a.view a.texture.now a.depths.now x ok true _ tt c.in_ok-strip_refusal.ensures (eq-eqb a.view 1 c.if-view-eq1.true) c.draw_strip.ensures
 
 pub returns-else-view-eq1 : goal.returns-else-view-eq1
 returns-else-view-eq1 c =
-    let x = strip c.args.samples.now c.args.marks.now c.args.fronts.now in
-    let ok = accepted_at c.args.settings c.args.view c.args.texture.now c.args.depths.now x c.strip_refusal-refusal.result c.strip_refusal-refusal.ensures c.number.ensures c.if-number-ne0.false in
-    drawn c.args.settings c.args.view c.args.texture.now c.args.depths.now x ok false _ c.strip_refusal-refusal.result c.strip_refusal-refusal.ensures c.number.ensures c.if-number-ne0.false (ne_eqb c.args.view 1 c.if-view-eq1.false) c.draw_strip-else-view-eq1.ensures
+    let a = c.args in
+    let x = strip a.samples.now a.marks.now a.fronts.now in
+    let ok = passed (goal.at.returns-else-view-eq1 c).In_ok-strip_refusal in
+    drawn a.settings a.view a.texture.now a.depths.now x ok false _ tt c.in_ok-strip_refusal.ensures (ne_eqb a.view 1 c.if-view-eq1.false) c.draw_strip-else-view-eq1.ensures

@@ -1,4 +1,4 @@
-use Prim.Native.Nat.{◌+◌, ◌-◌}
+use Prim.Native.Nat.{◌+◌}
 use mathlib.Core.Path.{◌≡◌, ap}
 use native.Mathlib.Omega.{arith}
 use Rattle.model.proofs.Views.{length_seen}
@@ -6,10 +6,6 @@ use Rattle.pixel.specs.declared.Edge.{Edge}
 use Rattle.planes.proofs.Splices.{splice_none}
 use Rattle.row.proofs.Wholes.{ready_seen}
 use Rattle.row.proofs.draw_part.Goals as goal
-
-pub pair_at-from-requires : goal.pair_at-from-requires
-pair_at-from-requires c =
-    let z : c.args.columns - 1 + 1 ≡ c.args.columns = omega (arith, c.requires.columns_nonzero.0) in record { table_value = (c.requires.ready.table, (omega (arith, c.requires.columns_nonzero), c.requires.ready.most)); edged = rw z c.requires.columns_nonzero.1.1.0 }
 
 pub draw_span-requires : goal.draw_span-requires
 draw_span-requires c =

@@ -1,11 +1,7 @@
 use mathlib.Core.Path.{refl, ◌∙◌}
-use native.Mathlib.Omega.{arith}
 use lib.ListN.{length}
 use Rattle.row.proofs.Wholes.{limits_whole}
 use Rattle.row.proofs.draw_row.Goals as goal
-
-pub draw_limits-requires : goal.draw_limits-requires
-draw_limits-requires c = record { table_value = (c.requires.ready.table, omega (arith, c.requires.ready.most)); columns_bound = (c.requires.ready.most, omega (arith, c.requires.samples_len.1.1.1)) }
 
 pub returns : goal.returns
 returns c =

@@ -1,14 +1,10 @@
 use mathlib.Core.Path.{sym, ◌∙◌}
-use native.Mathlib.Omega.{arith}
 use Rattle.planes.specs.Parts.{splice}
 use Rattle.planes.proofs.Entries.{read_at}
 use Rattle.planes.proofs.Splices.{length-splice}
 use Rattle.row.specs.Drawing.{shown_of}
 use Rattle.row.proofs.Columns.{edge_within}
 use Rattle.row.proofs.shown_at.Goals as goal
-
-pub pixel_of-own-requires : goal.pixel_of-own-requires
-pixel_of-own-requires c = record { among = rw c.requires.texture_len.0 c.requires.among; here_le_x = (c.requires.here_le_x.0, (omega (arith, c.requires.here_le_x.1), omega (arith, c.requires.here_le_x.1, c.requires.among.most))) }
 
 pub entry-e-requires : goal.entry-e-requires
 entry-e-requires c =

@@ -18,9 +18,9 @@ returns c =
       (
         refl,
         (
-          rw (c.least.ensures, c.front_past.ensures),
+          rw (c.min.ensures, c.front_past.ensures),
           (
-            record { column = column; most = c.requires.among.0.most; entry = c.left_of-e.ensures.0; front = rw (c.least.ensures, c.front_past.ensures) (past_within c.args.q c.requires.among.0) },
+            record { column = column; most = c.requires.among.0.most; entry = c.left_of-e.ensures.0; front = rw (c.min.ensures, c.front_past.ensures) (past_within c.args.q c.requires.among.0) },
             stands_left _ c.requires.stands c.requires.among.1 (omega (arith, length_seen c.args.right d, wide, c.requires.among.0.column)) refl
                 (c.tried_at-d0.ensures ∙ read_at 0 c.args.right d wide column c.left_of-e.ensures.0)
                 refl c.place_at.ensures refl,

@@ -1,12 +1,7 @@
 use Rattle.std.proofs.Common.{arith, length-take-le}
-use Rattle.std.proofs.lemmas.Result.{err_from_is_err_and, on_ok_weaker, on_err_weaker}
-use Rattle.rowprint.proofs.Runs.{printed_all, printed_part, printed_none}
+use Rattle.std.proofs.lemmas.Result.{on_ok_weaker, on_err_weaker}
+use Rattle.rowprint.proofs.Runs.{printed_all, printed_part}
 use Rattle.rowprint.proofs.run.Goals as goal
-
-pub returns-in_err-n-clause-err : goal.returns-in_err-n-clause-err
-returns-in_err-n-clause-err g c =
-    let p = err_from_is_err_and c.from_residual.result c.from_residual.ensures.1 in
-    rw p.1 (printed_none _ _)
 
 pub returns-clause-ok : goal.returns-clause-ok
 returns-clause-ok g c =

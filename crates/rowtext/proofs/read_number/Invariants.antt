@@ -1,12 +1,13 @@
-use Prim.Native.Nat.{◌≤◌, ◌-◌}
+use Prim.Native.Nat.{◌≤◌}
 use mathlib.Core.Path.{◌≡◌}
-use lib.ListN.{length, drop}
+use lib.ListN.{length}
 use Rattle.rowtext.specs.Reader.{read_number, read_digits}
 use Rattle.rowtext.proofs.read_number.Given as goal
 
-abbrev pub invariant-loop-at : goal.invariant-loop-at
-invariant-loop-at l =
-    (l.value ≤ l.most) × (l.next ≤ length l.text) × (read_number l.most (drop l.at l.text) ≡ read_digits l.most l.value (drop l.next l.text))
+-- The number is read as its digits so far, and then the rest of the text, are read.
+abbrev pub invariant-loop-b : goal.invariant-loop-b
+invariant-loop-b l =
+    (l.value ≤ l.most) × (read_number l.most l.fn.text ≡ read_digits l.most l.value l.rest)
 
-abbrev pub decreases-loop-at : goal.decreases-loop-at
-decreases-loop-at l = length l.text - l.next
+abbrev pub decreases-loop-b : goal.decreases-loop-b
+decreases-loop-b l = length l.rest

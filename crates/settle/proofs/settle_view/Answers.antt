@@ -1,6 +1,6 @@
 -- `settle::settle_view` meets its contract, for either view.
 use mathlib.Core.Bool.{true, false}
-use mathlib.Core.Path.{◌≡◌, refl}
+use mathlib.Core.Path.{◌≡◌}
 use borrow.Author.Tests.{eq-eqb, ne_eqb}
 use Rattle.model.specs.Views.{is_right}
 use Rattle.model.specs.Planes.{pictures, depths}
@@ -47,63 +47,3 @@ returns c =
     let f = passed s p d h c.args.view c.args.block c.args.candidate c.args.bytes.now c.requires in
     let side : is_right c.args.view ≡ false = ne_eqb c.args.view 1 c.if-view-eq1.false in
     (settled_by s p d h c.args.block (filled c.args.block c.args.candidate c.args.bytes.now) f c.args.view _ false side _ _ _ _ c.settle-2.ensures.0, rw side c.settle-2.ensures.1)
-
-pub shape_of-rightDepths-then-view-eq1 : goal.shape_of-rightDepths-then-view-eq1
-shape_of-rightDepths-then-view-eq1 c = c.settle.auto.depths
-
-pub shape_of-leftSamples-then-view-eq1 : goal.shape_of-leftSamples-then-view-eq1
-shape_of-leftSamples-then-view-eq1 c = refl
-
-pub shape_of-leftFronts-then-view-eq1 : goal.shape_of-leftFronts-then-view-eq1
-shape_of-leftFronts-then-view-eq1 c = refl
-
-pub shape_of-leftMarks-then-view-eq1 : goal.shape_of-leftMarks-then-view-eq1
-shape_of-leftMarks-then-view-eq1 c = refl
-
-pub shape_of-rightSamples-then-view-eq1 : goal.shape_of-rightSamples-then-view-eq1
-shape_of-rightSamples-then-view-eq1 c = c.settle.auto.samples
-
-pub shape_of-rightFronts-then-view-eq1 : goal.shape_of-rightFronts-then-view-eq1
-shape_of-rightFronts-then-view-eq1 c = c.settle.auto.fronts
-
-pub shape_of-rightLimits-then-view-eq1 : goal.shape_of-rightLimits-then-view-eq1
-shape_of-rightLimits-then-view-eq1 c = c.settle.auto.limits
-
-pub shape_of-rightMarks-then-view-eq1 : goal.shape_of-rightMarks-then-view-eq1
-shape_of-rightMarks-then-view-eq1 c = c.settle.auto.marks
-
-pub shape_of-combined-then-view-eq1 : goal.shape_of-combined-then-view-eq1
-shape_of-combined-then-view-eq1 c = c.settle.auto.combined
-
-pub shape_of-journal-then-view-eq1 : goal.shape_of-journal-then-view-eq1
-shape_of-journal-then-view-eq1 c = c.settle.auto.journal
-
-pub shape_of-leftDepths : goal.shape_of-leftDepths
-shape_of-leftDepths c = c.settle-2.auto.depths
-
-pub shape_of-leftSamples : goal.shape_of-leftSamples
-shape_of-leftSamples c = c.settle-2.auto.samples
-
-pub shape_of-leftFronts : goal.shape_of-leftFronts
-shape_of-leftFronts c = c.settle-2.auto.fronts
-
-pub shape_of-leftLimits : goal.shape_of-leftLimits
-shape_of-leftLimits c = c.settle-2.auto.limits
-
-pub shape_of-leftMarks : goal.shape_of-leftMarks
-shape_of-leftMarks c = c.settle-2.auto.marks
-
-pub shape_of-rightSamples : goal.shape_of-rightSamples
-shape_of-rightSamples c = refl
-
-pub shape_of-rightFronts : goal.shape_of-rightFronts
-shape_of-rightFronts c = refl
-
-pub shape_of-rightMarks : goal.shape_of-rightMarks
-shape_of-rightMarks c = refl
-
-pub shape_of-combined : goal.shape_of-combined
-shape_of-combined c = c.settle-2.auto.combined
-
-pub shape_of-journal : goal.shape_of-journal
-shape_of-journal c = c.settle-2.auto.journal

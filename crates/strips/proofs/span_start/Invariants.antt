@@ -1,4 +1,4 @@
-use Prim.Native.Nat.{◌+◌, ◌-◌, ◌≤◌, min}
+use Prim.Native.Nat.{◌+◌, ◌-◌, min}
 use mathlib.Core.Path.{◌≡◌}
 use lib.ListN.{length}
 use Rattle.model.specs.Row.{place, least}
@@ -8,8 +8,4 @@ use Rattle.strips.proofs.span_start.Given as goal
 
 abbrev pub invariant-loop-n : goal.invariant-loop-n
 invariant-loop-n l =
-    (l.n ≤ length l.candidate)
-    × (l.low ≡ least (λ c. min (place l.table (seen l.right l.depths) c) (place l.table (splice (seen l.right l.depths) l.first (seen l.right l.candidate)) c)) l.initial.low (l.first + l.n) (length l.candidate - l.n))
-
-abbrev pub decreases-loop-n : goal.decreases-loop-n
-decreases-loop-n l = l.n
+    l.low ≡ least (λ c. min (place l.table (seen l.right l.depths) c) (place l.table (splice (seen l.right l.depths) l.first (seen l.right l.candidate)) c)) l.initial.low (l.first + l.n) (length l.candidate - l.n)

@@ -1,35 +1,41 @@
 -- `take_back::take_back` keeps TAKE BACK's promise, refused and accepted.
-use mathlib.Core.Path.{refl, sym, ◌∙◌}
+use mathlib.Core.Path.{refl, sym}
 use native.Mathlib.Omega.{arith}
 use mir.Facts.{to_z-of_z}
 use mir.Syntax.{w64}
 use mir.Val.{SFits}
+use Rattle.std.specs.Prelude.{Ok, Err}
+use Rattle.std.proofs.Common.{rules}
 use Rattle.model.specs.Planes.{pictures, depths}
+use Rattle.model.proofs.Refusals.{some_number, err_from}
+use Rattle.judge.specs.Judged.{verdict}
 use Rattle.decide.specs.Decided.{held_of}
 use Rattle.take_back.proofs.Taking.{early_taken, newest_there, part_there, taken_requires, take_refused, take_settled}
 use Rattle.take_back.proofs.take_back.Goals as goal
 
-pub returns-then-number-ne0 : goal.returns-then-number-ne0
-returns-then-number-ne0 c =
+pub returns-in_err-take_back_refusal : goal.returns-in_err-take_back_refusal
+returns-in_err-take_back_refusal c =
     let p = pictures c.args.left.now c.args.right.now c.args.reference.now in
     let d = depths c.args.leftDepths.now c.args.rightDepths.now in
     let h = held_of c.args.leftSamples.now c.args.leftFronts.now c.args.leftLimits.now c.args.leftMarks.now c.args.rightSamples.now c.args.rightFronts.now c.args.rightLimits.now c.args.rightMarks.now c.args.combined.now in
-    take_refused c.args.settings p d h c.args.journal.now c.take_back_refusal-first.result (early_taken c.args.settings p d h c.args.journal.now c.take_back_refusal-first.ensures) (λ z. c.if-number-ne0.true (c.number.ensures ∙ z))
-    (record { left = λ i. omega (arith, c.type_inv.leftDepths i); right = λ i. omega (arith, c.type_inv.rightDepths i) })
+    rw (sym (err_from c.from_residual.result _ c.from_residual.ensures.1))
+    (take_refused c.args.settings p d h c.args.journal.now c.in_err-take_back_refusal.field-0.0 (early_taken c.args.settings p d h c.args.journal.now c.in_err-take_back_refusal.ensures)
+    (record { left = λ i. omega (arith, c.type_inv.leftDepths i); right = λ i. omega (arith, c.type_inv.rightDepths i) }))
 
 pub newest_record-record-requires : goal.newest_record-record-requires
 newest_record-record-requires c =
     let p = pictures c.args.left.now c.args.right.now c.args.reference.now in
     let d = depths c.args.leftDepths.now c.args.rightDepths.now in
     let h = held_of c.args.leftSamples.now c.args.leftFronts.now c.args.leftLimits.now c.args.leftMarks.now c.args.rightSamples.now c.args.rightFronts.now c.args.rightLimits.now c.args.rightMarks.now c.args.combined.now in
-    newest_there c.args.settings p d h c.args.journal.now (sym (early_taken c.args.settings p d h c.args.journal.now c.take_back_refusal-first.ensures) ∙ sym c.number.ensures ∙ c.if-number-ne0.false)
+    let early = sym (early_taken c.args.settings p d h c.args.journal.now c.in_ok-take_back_refusal.ensures) in
+    newest_there c.args.settings p d h c.args.journal.now early
 
 pub offset_bounds-journal-from : goal.offset_bounds-journal-from
 offset_bounds-journal-from c =
     let p = pictures c.args.left.now c.args.right.now c.args.reference.now in
     let d = depths c.args.leftDepths.now c.args.rightDepths.now in
     let h = held_of c.args.leftSamples.now c.args.leftFronts.now c.args.leftLimits.now c.args.leftMarks.now c.args.rightSamples.now c.args.rightFronts.now c.args.rightLimits.now c.args.rightMarks.now c.args.combined.now in
-    let early = sym (early_taken c.args.settings p d h c.args.journal.now c.take_back_refusal-first.ensures) ∙ sym c.number.ensures ∙ c.if-number-ne0.false in
+    let early = sym (early_taken c.args.settings p d h c.args.journal.now c.in_ok-take_back_refusal.ensures) in
     omega (arith, (part_there c.args.settings p d h c.args.journal.now early c.newest_record-record.ensures).0, c.well_formed)
 
 pub slice_bounds-restore_view-end : goal.slice_bounds-restore_view-end
@@ -37,15 +43,15 @@ slice_bounds-restore_view-end c =
     let p = pictures c.args.left.now c.args.right.now c.args.reference.now in
     let d = depths c.args.leftDepths.now c.args.rightDepths.now in
     let h = held_of c.args.leftSamples.now c.args.leftFronts.now c.args.leftLimits.now c.args.leftMarks.now c.args.rightSamples.now c.args.rightFronts.now c.args.rightLimits.now c.args.rightMarks.now c.args.combined.now in
-    let early = sym (early_taken c.args.settings p d h c.args.journal.now c.take_back_refusal-first.ensures) ∙ sym c.number.ensures ∙ c.if-number-ne0.false in
+    let early = sym (early_taken c.args.settings p d h c.args.journal.now c.in_ok-take_back_refusal.ensures) in
     (part_there c.args.settings p d h c.args.journal.now early c.newest_record-record.ensures).1
 
-pub restore_view-decision-requires : goal.restore_view-decision-requires
-restore_view-decision-requires c =
+pub restore_view-restored-requires : goal.restore_view-restored-requires
+restore_view-restored-requires c =
     let p = pictures c.args.left.now c.args.right.now c.args.reference.now in
     let d = depths c.args.leftDepths.now c.args.rightDepths.now in
     let h = held_of c.args.leftSamples.now c.args.leftFronts.now c.args.leftLimits.now c.args.leftMarks.now c.args.rightSamples.now c.args.rightFronts.now c.args.rightLimits.now c.args.rightMarks.now c.args.combined.now in
-    let early = sym (early_taken c.args.settings p d h c.args.journal.now c.take_back_refusal-first.ensures) ∙ sym c.number.ensures ∙ c.if-number-ne0.false in
+    let early = sym (early_taken c.args.settings p d h c.args.journal.now c.in_ok-take_back_refusal.ensures) in
     taken_requires c.args.settings p d h c.args.journal.now early c.newest_record-record.ensures
 
 pub strike-requires : goal.strike-requires
@@ -53,53 +59,25 @@ strike-requires c =
     let p = pictures c.args.left.now c.args.right.now c.args.reference.now in
     let d = depths c.args.leftDepths.now c.args.rightDepths.now in
     let h = held_of c.args.leftSamples.now c.args.leftFronts.now c.args.leftLimits.now c.args.leftMarks.now c.args.rightSamples.now c.args.rightFronts.now c.args.rightLimits.now c.args.rightMarks.now c.args.combined.now in
-    (newest_there c.args.settings p d h c.args.journal.now (sym (early_taken c.args.settings p d h c.args.journal.now c.take_back_refusal-first.ensures) ∙ sym c.number.ensures ∙ c.if-number-ne0.false)).0
+    let early = sym (early_taken c.args.settings p d h c.args.journal.now c.in_ok-take_back_refusal.ensures) in
+    (newest_there c.args.settings p d h c.args.journal.now early).0
 
-pub shape_of-leftDepths : goal.shape_of-leftDepths
-shape_of-leftDepths c = c.restore_view-decision.auto.leftDepths
-
-pub shape_of-rightDepths : goal.shape_of-rightDepths
-shape_of-rightDepths c = c.restore_view-decision.auto.rightDepths
-
-pub shape_of-leftSamples : goal.shape_of-leftSamples
-shape_of-leftSamples c = c.restore_view-decision.auto.leftSamples
-
-pub shape_of-leftFronts : goal.shape_of-leftFronts
-shape_of-leftFronts c = c.restore_view-decision.auto.leftFronts
-
-pub shape_of-leftLimits : goal.shape_of-leftLimits
-shape_of-leftLimits c = c.restore_view-decision.auto.leftLimits
-
-pub shape_of-leftMarks : goal.shape_of-leftMarks
-shape_of-leftMarks c = c.restore_view-decision.auto.leftMarks
-
-pub shape_of-rightSamples : goal.shape_of-rightSamples
-shape_of-rightSamples c = c.restore_view-decision.auto.rightSamples
-
-pub shape_of-rightFronts : goal.shape_of-rightFronts
-shape_of-rightFronts c = c.restore_view-decision.auto.rightFronts
+pub returns-in_err-decision : goal.returns-in_err-decision
+returns-in_err-decision c =
+    let p = pictures c.args.left.now c.args.right.now c.args.reference.now in
+    let d = depths c.args.leftDepths.now c.args.rightDepths.now in
+    let h = held_of c.args.leftSamples.now c.args.leftFronts.now c.args.leftLimits.now c.args.leftMarks.now c.args.rightSamples.now c.args.rightFronts.now c.args.rightLimits.now c.args.rightMarks.now c.args.combined.now in
+    let early = sym (early_taken c.args.settings p d h c.args.journal.now c.in_ok-take_back_refusal.ensures) in
+    rw (sym (err_from c.from_residual-in_err-decision.result _ c.from_residual-in_err-decision.ensures.1))
+    (take_settled c.args.settings p d h c.args.journal.now (verdict c.args.settings.total (Err c.in_err-decision.field-0.0)) _ refl _ _ _ early c.newest_record-record.ensures c.in_err-decision.ensures (λ _. refl) (λ z. absurd (some_number _ z))
+    (record { left = λ i. omega (arith, c.type_inv.leftDepths i); right = λ i. omega (arith, c.type_inv.rightDepths i) }))
 
 pub returns : goal.returns
 returns c =
     let p = pictures c.args.left.now c.args.right.now c.args.reference.now in
     let d = depths c.args.leftDepths.now c.args.rightDepths.now in
     let h = held_of c.args.leftSamples.now c.args.leftFronts.now c.args.leftLimits.now c.args.leftMarks.now c.args.rightSamples.now c.args.rightFronts.now c.args.rightLimits.now c.args.rightMarks.now c.args.combined.now in
-    let early = sym (early_taken c.args.settings p d h c.args.journal.now c.take_back_refusal-first.ensures) ∙ sym c.number.ensures ∙ c.if-number-ne0.false in
-    let fits : SFits w64 c.restore_view-decision.result.change = record { sfits = c.struct_told-1.given.1.0.1 } in
-    take_settled c.args.settings p d h c.args.journal.now c.restore_view-decision.result _ (to_z-of_z fits) _ _ _ early c.newest_record-record.ensures c.restore_view-decision.ensures c.strike.ensures
+    let early = sym (early_taken c.args.settings p d h c.args.journal.now c.in_ok-take_back_refusal.ensures) in
+    let fits : SFits w64 c.in_ok-decision.decision.change = search rules in
+    take_settled c.args.settings p d h c.args.journal.now (verdict c.args.settings.total (Ok c.in_ok-decision.decision)) _ (to_z-of_z fits) _ _ _ early c.newest_record-record.ensures c.in_ok-decision.ensures (λ ne. absurd (ne refl)) (λ _. c.strike.ensures)
     (record { left = λ i. omega (arith, c.type_inv.leftDepths i); right = λ i. omega (arith, c.type_inv.rightDepths i) })
-
-pub shape_of-journal-then-number-ne0 : goal.shape_of-journal-then-number-ne0
-shape_of-journal-then-number-ne0 c = refl
-
-pub shape_of-rightLimits : goal.shape_of-rightLimits
-shape_of-rightLimits c = c.restore_view-decision.auto.rightLimits
-
-pub shape_of-rightMarks : goal.shape_of-rightMarks
-shape_of-rightMarks c = c.restore_view-decision.auto.rightMarks
-
-pub shape_of-combined : goal.shape_of-combined
-shape_of-combined c = c.restore_view-decision.auto.combined
-
-pub shape_of-journal : goal.shape_of-journal
-shape_of-journal c = c.strike.auto.journal

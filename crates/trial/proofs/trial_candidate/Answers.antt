@@ -4,15 +4,13 @@ use Rattle.planes.specs.Parts.{block_of}
 use Rattle.fill.proofs.Rows.{lent_filled}
 use Rattle.trial.proofs.trial_candidate.Goals as goal
 
-pub trial_block-requires : goal.trial_block-requires
-trial_block-requires c =
+pub trial_block-requires-clause-fits : goal.trial_block-requires-clause-fits
+trial_block-requires-clause-fits c =
     let b = block_of c.args.column c.args.row c.args.width c.args.height in
-    let e = lent_filled b c.args.candidate c.args.bytes.now (sym c.lent.ensures ∙ c.if-lent.true) in record { table_value = c.requires.table_value; sized = c.requires.sized; fits = rw e at c.requires.fits.0 }
+    let e = lent_filled b c.args.candidate c.args.bytes.now (sym c.lent.ensures ∙ c.if-lent.true) in
+    rw e at c.requires.fits.0
 
 pub returns-then-lent : goal.returns-then-lent
 returns-then-lent c =
     let b = block_of c.args.column c.args.row c.args.width c.args.height in
     rw (lent_filled b c.args.candidate c.args.bytes.now (sym c.lent.ensures ∙ c.if-lent.true)) c.trial_block.ensures
-
-pub trial_made-requires : goal.trial_made-requires
-trial_made-requires c = record { table_value = c.requires.table_value; sized = c.requires.sized; fits = c.requires.fits; candidate_value = sym c.lent.ensures ∙ c.if-lent.false }

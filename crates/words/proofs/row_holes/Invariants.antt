@@ -1,11 +1,7 @@
-use Prim.Native.Nat.{◌-◌, ◌*◌, ◌≤◌}
-use mathlib.Core.Path.{◌≡◌}
+use Rattle.std.proofs.Common.{◌≡◌, ◌*◌}
 use Rattle.model.specs.Marks.{row_holes}
 use Rattle.words.proofs.row_holes.Given as goal
 
 -- Positions are written as those of byte 8 k, where word k begins.
 abbrev pub invariant-loop-k : goal.invariant-loop-k
-invariant-loop-k l = (l.k ≤ l.words) × (l.n ≡ row_holes l.row (8 * (8 * l.k)))
-
-abbrev pub decreases-loop-k : goal.decreases-loop-k
-decreases-loop-k l = l.words - l.k
+invariant-loop-k l = l.n ≡ row_holes l.row (8 * (8 * l.k))

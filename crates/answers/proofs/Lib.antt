@@ -1,2 +1,0 @@
--- Why it holds.
-pub mod Told

@@ -1,2 +1,0 @@
--- Why ends that are shared are one test.
-pub mod Lines

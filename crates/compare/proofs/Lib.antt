@@ -1,3 +1,0 @@
--- Why it holds: laws of the comparison, by topic.
-pub mod Values
-pub mod Ways
