@@ -1,5 +1,4 @@
 -- The combined picture after one row of one view was committed.
---     part_in, rows_reach, part_rows     the rows as they are lent
 --     row_set                            with the span combined anew, the row is what the two views hold
 use Prim.Native.Nat.{ℕ, ◌+◌, ◌-◌, ◌*◌, ◌<◌, ◌≤◌}
 use mathlib.Core.Path.{◌≡◌, sym, ap, subst, ◌∙◌}
@@ -7,27 +6,26 @@ use mathlib.Core.Bool.{Bool}
 use mathlib.Core.Logic.{⊎_elim, ◌⊎◌, inl, inr}
 use mathlib.Core.List.{List}
 use native.Mathlib.Omega.{arith}
-use lib.ListN.{length, get_or, take, drop}
+use lib.ListN.{length, get_or}
 use Rattle.model.specs.declared.Tear.{Tear}
 use Rattle.model.specs.declared.Pixel.{Pixel}
 use Rattle.model.specs.Lists.{row_of}
 use Rattle.model.specs.Row.{greatest}
 use Rattle.model.specs.Planes.{View, read_all, view_rows}
-use Rattle.model.specs.Marks.{mark_bytes}
 use Rattle.model.proofs.Choice.{lt_or_le}
 use Rattle.model.proofs.Lists.{length-list_of, get_or-list_of, list_of_lem, length-row}
 use Rattle.model.proofs.Readings.{length-read_all}
 use Rattle.planes.specs.Parts.{splice, Low}
 use Rattle.planes.proofs.Read.{read_put, low_list, low_splice}
-use Rattle.planes.proofs.Splices.{length-splice, splice_under, splice_inside, splice_beyond, row_splice, row_other, part_row, part_length}
+use Rattle.planes.proofs.Splices.{length-splice, splice_under, splice_inside, splice_beyond, row_splice, row_other}
 use Rattle.marks.specs.Puts.{held_pixel}
 use Rattle.marks.proofs.Held.{held_most}
 use Rattle.sums.specs.Sides.{paired}
 use Rattle.sums.proofs.Sides.{paired_most}
-use Rattle.blend.specs.Blend.{Reaches, combined_part}
+use Rattle.blend.specs.Blend.{combined_part}
 use Rattle.commit.specs.Commit.{SoundRow, RowCommitted, held_at, held_in}
 use Rattle.commit.proofs.Planes.{same_row}
-use Rattle.combine.specs.Combine.{combined_row, ViewIn, RowSet}
+use Rattle.combine.specs.Combine.{combined_row, RowSet}
 
 module _ (right : Bool) (share tolerance : ℕ) (own other : ℕ → Pixel) where
   length_part : (from n : ℕ) → length (combined_part right share tolerance own other from n) ≡ n
@@ -53,24 +51,6 @@ module _ (right : Bool) (share tolerance : ℕ) (own other : ℕ → Pixel) wher
 
 inside : (from to w : ℕ) → from ≤ to → to ≤ w → from + (to - from) ≤ w
 inside from to w h k = omega arith
-
--- ---- the rows as they are lent
-
-pub part_in : (base from to w n : ℕ) → from ≤ to → to ≤ w → base + w ≤ n → base + from + (to - from) ≤ n
-part_in base from to w n h k l = omega arith
-
--- the rows of a view reach to the part's end
-pub rows_reach : (w y from to n : ℕ) (s f m : List ℕ) → from ≤ to → to ≤ w → n ≡ to - from → ViewIn w y s f m → Reaches (from + n) (take (y * w + w - y * w) (drop (y * w) s)) (take (y * w + w - y * w) (drop (y * w) f)) (take (y * mark_bytes w + mark_bytes w - y * mark_bytes w) (drop (y * mark_bytes w) m))
-rows_reach w y from to n s f m h k e v =
-    record {
-      samples = rw (part_length s (y * w) w v.samples) (omega arith);
-      fronts = rw (part_length f (y * w) w v.fronts) (omega arith);
-      marks = rw (part_length m (y * mark_bytes w) (mark_bytes w) v.marks) (omega arith);
-    }
-
-pub part_rows : (right : Bool) (share tolerance w y from n : ℕ) (s f m s₂ f₂ m₂ : List ℕ) {k : ℕ} {ys : List ℕ} → k ≡ n → ys ≡ combined_part right share tolerance (held_pixel (take (y * w + w - y * w) (drop (y * w) s)) (take (y * w + w - y * w) (drop (y * w) f)) (take (y * mark_bytes w + mark_bytes w - y * mark_bytes w) (drop (y * mark_bytes w) m))) (held_pixel (take (y * w + w - y * w) (drop (y * w) s₂)) (take (y * w + w - y * w) (drop (y * w) f₂)) (take (y * mark_bytes w + mark_bytes w - y * mark_bytes w) (drop (y * mark_bytes w) m₂))) from k → ys ≡ combined_part right share tolerance (held_at w s f m y) (held_at w s₂ f₂ m₂ y) from n
-part_rows right share tolerance w y from n s f m s₂ f₂ m₂ e h =
-    rw (part_row s w y, part_row f w y, part_row m (mark_bytes w) y, part_row s₂ w y, part_row f₂ w y, part_row m₂ (mark_bytes w) y, e) at h
 
 -- ---- the row that is combined anew
 

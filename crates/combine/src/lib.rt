@@ -13,54 +13,6 @@ ghost use Rattle.combine.specs.Combine.{ViewIn, OtherSized, BlockIn, RowSet, Blo
 
 use model::{Candidate, Tear};
 
-// Writes the combined samples of the entries `from` up to `to` of row y. The first three planes are those of the view that `right` names,
-// the second three the other view's.
-#[tactic(auto, using(crate::proofs::Combined::part_in, crate::proofs::Combined::rows_reach))]
-fn combine_row(
-    right: bool,
-    share: u8,
-    tolerance: u8,
-    w: usize,
-    y: usize,
-    from: usize,
-    to: usize,
-    samples: &[u16],
-    fronts: &[u8],
-    marks: &[u8],
-    samples2: &[u16],
-    fronts2: &[u8],
-    marks2: &[u8],
-    combined: &mut [u16],
-)
-    requires share_bound { (share ≤ 64) × ((w ≤ 4096) × ((from ≤ to) × (to ≤ w))) }
-    requires view_in { (ViewIn w y samples.now fronts.now marks.now) × (ViewIn w y samples2.now fronts2.now marks2.now) }
-    requires w_in_bounds { y * w + w ≤ length combined.old }
-    ensures { combined.new ≡ splice combined.old (y * w + from)
-        (combined_part right share tolerance (held_at w samples.now fronts.now marks.now y) (held_at w samples2.now fronts2.now marks2.now y) from (to - from)) }
-{
-    let base = y * w;
-    let end = base + w;
-    let bytes = (w + 7) / 8;
-    let byte = y * bytes;
-    let last = byte + bytes;
-    let first = base + from;
-    let n = to - from;
-    let stop = first + n;
-    blend::blend_part(
-        right,
-        share,
-        tolerance,
-        &samples[base..end],
-        &fronts[base..end],
-        &marks[byte..last],
-        &samples2[base..end],
-        &fronts2[base..end],
-        &marks2[byte..last],
-        from,
-        &mut combined[first..stop],
-    );
-}
-
 // Commits a row of one view, and combines the entries that are drawn anew with the other view.
 fn set_row(
     tear: Tear,
@@ -99,7 +51,7 @@ fn set_row(
     );
     let from = drawn.from;
     let to = drawn.to;
-    combine_row(
+    blend::blend_row(
         right, share, tolerance, w, y, from, to, samples, fronts, marks, samples2, fronts2, marks2,
         combined,
     );

@@ -182,7 +182,7 @@ pub fn luph_raw_get<'a>(
         combined,
         view,
         block,
-        shape::candidate_of(shape),
+        model::Candidate::from(shape),
         &bytes[..n],
     );
     answers::tried(tried, change)
@@ -237,7 +237,7 @@ pub fn luph_raw_set(
         journal,
         view,
         block,
-        shape::candidate_of(shape),
+        model::Candidate::from(shape),
         &bytes[..n],
     );
     answers::edited(edited, change, total)

@@ -69,6 +69,7 @@ fn trial_saved(
     let mut old = 0u64;
     let mut new = 0u64;
     let mut done = 0;
+    // not a range: only the call says how many rows the room took
     while done < height {
         let n = records::narrow_rows(words, width, done, height - done, room);
         let end = n * width;
@@ -117,6 +118,7 @@ fn set_saved(
         combined.old combined.new }
 {
     let mut done = 0;
+    // not a range: only the call says how many rows the room took
     while done < height {
         let n = records::narrow_rows(words, width, done, height - done, room);
         let end = n * width;

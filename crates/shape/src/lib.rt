@@ -6,7 +6,7 @@ ghost use Rattle.shape.specs.Shapes.{candidate_of, lent_of};
 
 use model::{Candidate, Point, Split, Tear};
 
-// A candidate, apart from the bytes that are lent with it. Kind 0 is a full block, 1 one value, 2 a line and 3 a mask.
+// A candidate, apart from the bytes that are lent with it. Kind 0 is a full block, 1 one value, 2 a line and 3 a mask: a number, since C passes it.
 #[repr(C)]
 #[derive(Drop)]
 pub struct Shape {
@@ -20,36 +20,35 @@ pub struct Shape {
 }
 
 // The candidate that a shape stands for; a kind that is none of these is taken for a full block.
-pub fn candidate_of(shape: Shape) -> Candidate
-    ensures { result ≡ candidate_of shape }
-{
-    if shape.kind == 1 {
-        return Candidate::Flat(shape.value0);
-    }
-    if shape.kind == 2 {
-        return Candidate::Regions {
-            value0: shape.value0,
-            value1: shape.value1,
-            split: Split::Line {
-                start: Point {
-                    column: shape.startColumn,
-                    row: shape.startRow,
-                },
-                end: Point {
-                    column: shape.endColumn,
-                    row: shape.endRow,
+#[tactic(auto, unfolding(crate::specs::Shapes::candidate_of))]
+impl From<Shape> for Candidate {
+    ghost from_gives = { λ shape candidate. candidate ≡ candidate_of shape };
+
+    fn from(shape: Shape) -> Candidate {
+        match shape.kind {
+            1 => Candidate::Flat(shape.value0),
+            2 => Candidate::Regions {
+                value0: shape.value0,
+                value1: shape.value1,
+                split: Split::Line {
+                    start: Point {
+                        column: shape.startColumn,
+                        row: shape.startRow,
+                    },
+                    end: Point {
+                        column: shape.endColumn,
+                        row: shape.endRow,
+                    },
                 },
             },
-        };
+            3 => Candidate::Regions {
+                value0: shape.value0,
+                value1: shape.value1,
+                split: Split::Mask,
+            },
+            _ => Candidate::Full,
+        }
     }
-    if shape.kind == 3 {
-        return Candidate::Regions {
-            value0: shape.value0,
-            value1: shape.value1,
-            split: Split::Mask,
-        };
-    }
-    Candidate::Full
 }
 
 // How many of n bytes are lent on: none with a kind that is not known, which is so refused as a full block without depths, with 7 in its place.

@@ -14,6 +14,6 @@ unfolding bytes_of
 returns c =
     record {
       reply = answer_of (verdict c.args.total c.decide-tried.result);
-      promised = rw (c.tear_of-tear.ensures, c.candidate_of.ensures, c.lent-n.ensures.0) at c.decide-tried.ensures.answer;
+      promised = rw (c.tear_of-tear.ensures, c.from.ensures, c.lent-n.ensures.0) at c.decide-tried.ensures.answer;
       told = c.tried.ensures c.args.total;
     }

@@ -13,6 +13,6 @@ unfolding bytes_of
 returns c =
     record {
       reply = edit_reply c.args.settings c.set-edited.result;
-      promised = rw (c.candidate_of.ensures, c.lent-n.ensures.0) at c.set-edited.ensures;
+      promised = rw (c.from.ensures, c.lent-n.ensures.0) at c.set-edited.ensures;
       told = c.edited.ensures c.args.settings;
     }
