@@ -1,13 +1,10 @@
 // What GET decides: the first refusal that applies, or the change of the total.
 #![tactic(auto)]
 
-ghost use Rattle.std.specs.Prelude.{◌≡◌, false, length};
-ghost use Rattle.model.specs.declared.Candidate.TheVariants.{Full};
-ghost use Rattle.model.specs.Views.{is_right};
+ghost use Rattle.std.specs.Prelude.{◌≡◌, length};
 ghost use Rattle.model.specs.Planes.{pictures, depths};
 ghost use Rattle.model.specs.Candidates.{filled};
 ghost use Rattle.model.specs.Refusals.{early_number};
-ghost use Rattle.fill.specs.Rows.{is_lent};
 ghost use Rattle.judge.specs.Judged.{verdict};
 ghost use Rattle.decide.specs.Decided.{settings_of, held_of, Tried, Decided};
 
@@ -16,188 +13,7 @@ use model::{Block, Candidate, Refusal, Tear};
 use strips::{Counterpart, Source, Sums};
 use validate::{Lengths, ViewLengths};
 
-// View 1 is the right view.
-fn is_right(view: u32) -> bool
-    ensures { result ≡ is_right view }
-{
-    view == 1
-}
-
-// The squared errors in the block's spans, summed as the combined picture is held and as the candidate would make it, for a full block.
-fn try_lent(
-    w: u32,
-    h: u32,
-    leftTable: &[u16; 256],
-    rightTable: &[u16; 256],
-    share: u8,
-    tolerance: u8,
-    tear: Tear,
-    left: &[u16],
-    right: &[u16],
-    reference: &[u16],
-    leftDepths: &[u8],
-    rightDepths: &[u8],
-    leftSamples: &[u16],
-    leftFronts: &[u8],
-    leftLimits: &[i16],
-    leftMarks: &[u8],
-    rightSamples: &[u16],
-    rightFronts: &[u8],
-    rightLimits: &[i16],
-    rightMarks: &[u8],
-    combined: &[u16],
-    view: u32,
-    block: Block,
-    bytes: &[u8],
-) -> Sums
-    requires { early_number (settings_of w h leftTable.now rightTable.now share tolerance tear 0)
-        (pictures left.now right.now reference.now)
-        (depths leftDepths.now rightDepths.now)
-        (held_of leftSamples.now leftFronts.now leftLimits.now leftMarks.now rightSamples.now rightFronts.now rightLimits.now rightMarks.now combined.now)
-        view block Full (length bytes.now) ≡ 0 }
-    ensures { Tried (settings_of w h leftTable.now rightTable.now share tolerance tear 0)
-        (pictures left.now right.now reference.now)
-        (depths leftDepths.now rightDepths.now)
-        (held_of leftSamples.now leftFronts.now leftLimits.now leftMarks.now rightSamples.now rightFronts.now rightLimits.now rightMarks.now combined.now)
-        view block bytes.now result.old result.new }
-{
-    let columns = w as usize;
-    let rows = h as usize;
-    let column = block.column as usize;
-    let row = block.row as usize;
-    let width = block.width as usize;
-    let height = block.height as usize;
-    if is_right(view) {
-        let v = Source {
-            tear,
-            table: rightTable,
-            texture: right,
-            depths: rightDepths,
-            limits: rightLimits,
-        };
-        let o = Counterpart {
-            right: true,
-            share,
-            tolerance,
-            samples: leftSamples,
-            fronts: leftFronts,
-            marks: leftMarks,
-            combined,
-            reference,
-        };
-        return trial::trial_block(v, o, columns, rows, column, row, width, height, bytes);
-    }
-    let v = Source {
-        tear,
-        table: leftTable,
-        texture: left,
-        depths: leftDepths,
-        limits: leftLimits,
-    };
-    let o = Counterpart {
-        right: false,
-        share,
-        tolerance,
-        samples: rightSamples,
-        fronts: rightFronts,
-        marks: rightMarks,
-        combined,
-        reference,
-    };
-    trial::trial_block(v, o, columns, rows, column, row, width, height, bytes)
-}
-
-// The same for a candidate whose rows are made.
-fn try_made(
-    w: u32,
-    h: u32,
-    leftTable: &[u16; 256],
-    rightTable: &[u16; 256],
-    share: u8,
-    tolerance: u8,
-    tear: Tear,
-    left: &[u16],
-    right: &[u16],
-    reference: &[u16],
-    leftDepths: &[u8],
-    rightDepths: &[u8],
-    leftSamples: &[u16],
-    leftFronts: &[u8],
-    leftLimits: &[i16],
-    leftMarks: &[u8],
-    rightSamples: &[u16],
-    rightFronts: &[u8],
-    rightLimits: &[i16],
-    rightMarks: &[u8],
-    combined: &[u16],
-    view: u32,
-    block: Block,
-    candidate: Candidate,
-    bytes: &[u8],
-) -> Sums
-    requires bytes_value { early_number (settings_of w h leftTable.now rightTable.now share tolerance tear 0)
-        (pictures left.now right.now reference.now)
-        (depths leftDepths.now rightDepths.now)
-        (held_of leftSamples.now leftFronts.now leftLimits.now leftMarks.now rightSamples.now rightFronts.now rightLimits.now rightMarks.now combined.now)
-        view block candidate (length bytes.now) ≡ 0 }
-    requires candidate_value { is_lent candidate ≡ false }
-    ensures { Tried (settings_of w h leftTable.now rightTable.now share tolerance tear 0)
-        (pictures left.now right.now reference.now)
-        (depths leftDepths.now rightDepths.now)
-        (held_of leftSamples.now leftFronts.now leftLimits.now leftMarks.now rightSamples.now rightFronts.now rightLimits.now rightMarks.now combined.now)
-        view block (filled block candidate bytes.now) result.old result.new }
-{
-    let columns = w as usize;
-    let rows = h as usize;
-    let column = block.column as usize;
-    let row = block.row as usize;
-    let width = block.width as usize;
-    let height = block.height as usize;
-    if is_right(view) {
-        let v = Source {
-            tear,
-            table: rightTable,
-            texture: right,
-            depths: rightDepths,
-            limits: rightLimits,
-        };
-        let o = Counterpart {
-            right: true,
-            share,
-            tolerance,
-            samples: leftSamples,
-            fronts: leftFronts,
-            marks: leftMarks,
-            combined,
-            reference,
-        };
-        return trial::trial_made(
-            v, o, columns, rows, column, row, width, height, candidate, bytes,
-        );
-    }
-    let v = Source {
-        tear,
-        table: leftTable,
-        texture: left,
-        depths: leftDepths,
-        limits: leftLimits,
-    };
-    let o = Counterpart {
-        right: false,
-        share,
-        tolerance,
-        samples: rightSamples,
-        fronts: rightFronts,
-        marks: rightMarks,
-        combined,
-        reference,
-    };
-    trial::trial_made(
-        v, o, columns, rows, column, row, width, height, candidate, bytes,
-    )
-}
-
-// The same for a candidate of any kind.
+// The squared errors in the block's spans, summed as the combined picture is held and as the candidate would make it.
 fn try_candidate(
     w: u32,
     h: u32,
@@ -236,60 +52,53 @@ fn try_candidate(
         (held_of leftSamples.now leftFronts.now leftLimits.now leftMarks.now rightSamples.now rightFronts.now rightLimits.now rightMarks.now combined.now)
         view block (filled block candidate bytes.now) result.old result.new }
 {
-    if fill::lent(candidate) {
-        return try_lent(
-            w,
-            h,
-            leftTable,
-            rightTable,
+    let columns = w as usize;
+    let rows = h as usize;
+    let column = block.column as usize;
+    let row = block.row as usize;
+    let width = block.width as usize;
+    let height = block.height as usize;
+    if view == 1 {
+        let v = Source {
+            tear,
+            table: rightTable,
+            texture: right,
+            depths: rightDepths,
+            limits: rightLimits,
+        };
+        let o = Counterpart {
+            right: true,
             share,
             tolerance,
-            tear,
-            left,
-            right,
-            reference,
-            leftDepths,
-            rightDepths,
-            leftSamples,
-            leftFronts,
-            leftLimits,
-            leftMarks,
-            rightSamples,
-            rightFronts,
-            rightLimits,
-            rightMarks,
+            samples: leftSamples,
+            fronts: leftFronts,
+            marks: leftMarks,
             combined,
-            view,
-            block,
-            bytes,
+            reference,
+        };
+        return trial::trial_candidate(
+            v, o, columns, rows, column, row, width, height, candidate, bytes,
         );
     }
-    try_made(
-        w,
-        h,
-        leftTable,
-        rightTable,
+    let v = Source {
+        tear,
+        table: leftTable,
+        texture: left,
+        depths: leftDepths,
+        limits: leftLimits,
+    };
+    let o = Counterpart {
+        right: false,
         share,
         tolerance,
-        tear,
-        left,
-        right,
-        reference,
-        leftDepths,
-        rightDepths,
-        leftSamples,
-        leftFronts,
-        leftLimits,
-        leftMarks,
-        rightSamples,
-        rightFronts,
-        rightLimits,
-        rightMarks,
+        samples: rightSamples,
+        fronts: rightFronts,
+        marks: rightMarks,
         combined,
-        view,
-        block,
-        candidate,
-        bytes,
+        reference,
+    };
+    trial::trial_candidate(
+        v, o, columns, rows, column, row, width, height, candidate, bytes,
     )
 }
 
