@@ -1,7 +1,7 @@
 // What is held, compared with a fresh drawing at one position.
 #![tactic(auto)]
 
-ghost use Rattle.std.specs.Prelude.{◌≡◌, ◌+◌, ◌*◌, ◌<◌, ◌≤◌, length, take};
+ghost use Rattle.std.specs.Prelude.{◌≡◌, ◌+◌, ◌*◌, ◌<◌, ◌≤◌, length, take, replicate, pos};
 ghost use Rattle.model.specs.Lists.{row_of};
 ghost use Rattle.model.specs.Marks.{mark_bytes, spare_bits};
 ghost use Rattle.model.specs.Combined.{combined_of};
@@ -31,8 +31,13 @@ pub struct DrawnRow {
 }
 
 impl DrawnRow {
-    // Room for a row; nothing is drawn.
-    pub fn new() -> DrawnRow {
+    // Room for a row: zeros, and no hole.
+    pub fn new() -> DrawnRow
+        ensures samples { result.samples ≡ replicate 4096 0 }
+        ensures fronts { result.fronts ≡ replicate 4096 0 }
+        ensures limits { result.limits ≡ replicate 4096 (pos 0) }
+        ensures marks { result.marks ≡ replicate 512 0 }
+    {
         DrawnRow {
             samples: [0; 4096],
             fronts: [0; 4096],
