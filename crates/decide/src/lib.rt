@@ -58,6 +58,8 @@ fn try_candidate(
     let row = block.row as usize;
     let width = block.width as usize;
     let height = block.height as usize;
+    // Told apart before the view, and in no function that SET calls too: so GET calls the trial of a full block straight.
+    let lent = fill::lent(candidate);
     if view == 1 {
         let v = Source {
             tear,
@@ -76,7 +78,10 @@ fn try_candidate(
             combined,
             reference,
         };
-        return trial::trial_candidate(
+        if lent {
+            return trial::trial_block(v, o, columns, rows, column, row, width, height, bytes);
+        }
+        return trial::trial_made(
             v, o, columns, rows, column, row, width, height, candidate, bytes,
         );
     }
@@ -97,7 +102,10 @@ fn try_candidate(
         combined,
         reference,
     };
-    trial::trial_candidate(
+    if lent {
+        return trial::trial_block(v, o, columns, rows, column, row, width, height, bytes);
+    }
+    trial::trial_made(
         v, o, columns, rows, column, row, width, height, candidate, bytes,
     )
 }

@@ -61,11 +61,11 @@ limits_again tear t s d d' a b n high {e} {e'} edit en most eh old le r =
 
 module _ {t d : List ℕ} {n high : ℕ} {e e' : List ℤ} {c top : ℕ} (done : LimitsFrom (place t d) n high top c e e') where
   -- the held limit of the column before, left of column a, is the one to be written
-  pub written_settled : (a here next held : ℕ) → 0 < c → c ≤ n → c - 1 < a → here ≡ place t d (c - 1) → next ≡ min here top → held ≡ raised_of (get_or e' (c - 1) (pos 0)) → held ≡ next → Relimited t d a n high e e'
-  written_settled a here next held some more left eh en er eq =
+  pub written_settled : (a here next held : ℕ) → 0 < c → c - 1 < a → here ≡ place t d (c - 1) → next ≡ min here top → held ≡ raised_of (get_or e' (c - 1) (pos 0)) → held ≡ next → Relimited t d a n high e e'
+  written_settled a here next held some left eh en er eq =
       let z : c - 1 + 1 ≡ c = omega arith in
       let step : next ≡ limit_below (place t d) high n (c - 1) =
-      en ∙ rw (eh, done.limits) (sym (rw z at (below_step (place t d) high n (c - 1) (omega arith)))) in
+      en ∙ rw (eh, done.limits) (sym (rw z at (below_step (place t d) high n (c - 1) (omega (arith, done.column))))) in
       record {
         stop = c;
         order = omega arith;

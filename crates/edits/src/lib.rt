@@ -18,6 +18,17 @@ pub struct Edit {
     pub edge: Edge,
 }
 
+// Copies `values` into a part of that length: entry by entry, since the library's copy has a program in C need `memmove` besides `memcpy` and
+// `memset`.
+fn write(part: &mut [u8], values: &[u8])
+    requires { length part.old ≡ length values.now }
+    ensures { part.new ≡ values.now }
+{
+    for (i, value) in values.iter().enumerate() {
+        part[i] = *value;
+    }
+}
+
 // Writes the candidate into a row of depths from `column` on, and answers the low end of the span. `first` is its first column, as the
 // view reads the row.
 fn edit_row(
@@ -35,7 +46,7 @@ fn edit_row(
     let n = candidate.len();
     let old = places::row_low(right, table, depths, first, n);
     let end = column + n;
-    depths[column..end].copy_from_slice(candidate);
+    write(&mut depths[column..end], candidate);
     let least = places::least_place(right, table, depths, first, n, old);
     least.saturating_sub(1)
 }

@@ -27,7 +27,7 @@ use Rattle.model.proofs.Choice.{lt_or_le, and_left, and_right}
 use Rattle.model.proofs.Lists.{length-list_of, get_or-list_of, list_of_lem, list_same, rows_apart, length-row, length_plane_row, get_or_row, entry_fits}
 use Rattle.model.proofs.Refusals.{unless_true}
 use Rattle.model.proofs.Candidates.{border_inside}
-use Rattle.planes.proofs.Splices.{row_whole, row_other_whole, put_back}
+use Rattle.planes.proofs.Splices.{length-splice, row_whole, row_other_whole, put_back}
 use Rattle.fill.specs.Rows.{above, below, Near, filled_row, RowThere, is_lent, room_of, row_in, Started, RowsMade}
 use Rattle.fill.proofs.Lines.{line_region}
 
@@ -125,8 +125,10 @@ unfolding room_of
 row_holds w c n k room e l h = let m : length room ≡ n * w = rw e at l in omega (arith, rows_apart w k n h)
 
 -- one more row, put back into the room
-pub rows_more : (w k : ℕ) (f : ℕ → List ℕ) (room ys : List ℕ) → k * w + w ≤ length room → length ys ≡ w → ys ≡ f k → ((j : ℕ) → j < k → row_of room w j ≡ f j) → (j : ℕ) → j < k + 1 → row_of (take (k * w) room ++ (ys ++ drop (k * w + w - k * w) (drop (k * w) room))) w j ≡ f j
-rows_more w k f room ys fits n e h j b =
-    rw (put_back room ys (k * w) w n)
-    (⊎_elim (λ u. row_other_whole 0 room w k j ys fits n (λ q. absurd (omega arith)) ∙ h j u)
-    (λ u. let q : j ≡ k = omega arith in rw q (row_whole 0 room w k ys fits n ∙ e)) (lt_or_le j k))
+pub rows_more : (w k : ℕ) (f : ℕ → List ℕ) (room ys : List ℕ) → k * w + w ≤ length room → length ys ≡ w → ys ≡ f k → ((j : ℕ) → j < k → row_of room w j ≡ f j) → (length (take (k * w) room ++ (ys ++ drop (k * w + w - k * w) (drop (k * w) room))) ≡ length room) × ((j : ℕ) → j < k + 1 → row_of (take (k * w) room ++ (ys ++ drop (k * w + w - k * w) (drop (k * w) room))) w j ≡ f j)
+rows_more w k f room ys fits n e h =
+    rw (put_back room ys (k * w) w n) (
+      length-splice room (k * w) ys (omega arith),
+      λ j b. ⊎_elim (λ u. row_other_whole 0 room w k j ys fits n (λ q. absurd (omega arith)) ∙ h j u)
+          (λ u. let q : j ≡ k = omega arith in rw q (row_whole 0 room w k ys fits n ∙ e)) (lt_or_le j k),
+    )

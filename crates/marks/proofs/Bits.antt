@@ -1,20 +1,25 @@
 -- One bit of a byte, set.
---     put_bit-lt                        what the code's arithmetic asks
+--     one_shl, clear_le, put_bit-lt     what the code's arithmetic asks
 --     put_bit_step                      below the lowest bit
 --     put_above                        the bits above it stay
 --     put_pack_byte                     a bit is set in the packed byte as the mark is in the list
 use Prim.Native.Nat.{ℕ, zero, suc, ◌+◌, ◌-◌, ◌*◌, ◌/◌, ◌%◌, ◌^◌, ◌<◌, ◌≤◌}
 use mathlib.Core.Path.{◌≡◌, sym, ap, ◌∙◌, subst}
 use mathlib.Core.List.{List, [], ◌∷◌}
-use native.Mathlib.Nat.{pow-succ', mul_left_comm, mod-le, mul-le-mul_right, div-mul-le_self, le_trans, not-suc-le-zero, le_of_suc-le-suc}
+use native.Mathlib.Nat.{pow-succ', one-mul, mul_left_comm, mod-le, mul-le-mul_right, div-mul-le_self, le_trans, not-suc-le-zero, le_of_suc-le-suc}
 use native.Mathlib.Omega.{arith}
+use lib.Pow.{shl_exact}
 use lib.ListN.{length, set}
 use Rattle.model.specs.Marks.{pack_byte}
 use Rattle.model.proofs.Packing.{Flags, div_step}
 use Rattle.marks.specs.Puts.{put_bit}
 
+-- a shift of 1 loses nothing
+pub one_shl : (n k : ℕ) → k < n → 1 * 2 ^ k % 2 ^ n ≡ 2 ^ k
+one_shl n k h = shl_exact 1 k n (omega arith) (omega arith) ∙ one-mul (2 ^ k)
+
 -- the bit that is taken away is there
-clear_le : (b m : ℕ) → b / m % 2 * m ≤ b
+pub clear_le : (b m : ℕ) → b / m % 2 * m ≤ b
 clear_le b m = le_trans (mul-le-mul_right m (mod-le (b / m) 2)) (div-mul-le_self b m)
 
 lin : (f x a b ta vb : ℕ) → a ≤ x → ta ≡ 2 * a → vb ≡ 2 * b → f + 2 * x - ta + vb ≡ f + 2 * (x - a + b)

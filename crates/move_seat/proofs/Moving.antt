@@ -13,7 +13,7 @@ use Rattle.model.specs.Promises.{FillPost, OpenPost}
 use Rattle.model.proofs.Refusals.{some_number}
 
 module _ (s n : Settings) {p : Pictures} {d : Depths} {h₀ h : Held} {j₀ j : List ℕ} where
-  kept : (r : Refusal) → OpenPost n p d h₀ h j₀ j (open_reply n (Err r)) → FillPost s n p d h₀ h j₀ j (open_reply s (Err r))
+  pub kept : (r : Refusal) → OpenPost n p d h₀ h j₀ j (open_reply n (Err r)) → FillPost s n p d h₀ h j₀ j (open_reply s (Err r))
   kept r o =
       record {
         number = o.number;
@@ -26,7 +26,7 @@ module _ (s n : Settings) {p : Pictures} {d : Depths} {h₀ h : Held} {j₀ j : 
         eight_bit = o.eight_bit;
       }
 
-  moved : (next : Settings) → OpenPost n p d h₀ h j₀ j (open_reply n (Ok next)) → FillPost s n p d h₀ h j₀ j (open_reply s (Ok next))
+  pub moved : (next : Settings) → OpenPost n p d h₀ h j₀ j (open_reply n (Ok next)) → FillPost s n p d h₀ h j₀ j (open_reply s (Ok next))
   moved next o =
       record {
         number = o.number;

@@ -5,7 +5,7 @@ use mathlib.Core.List.{List}
 use lib.ListN.{length, set}
 use Rattle.model.specs.declared.Pixel.{Pixel}
 use Rattle.planes.specs.Parts.{Painted}
-use Rattle.planes.proofs.Fills.{filled_none, filled_back}
+use Rattle.planes.proofs.Fills.{filled_none, filled_back, filled_change}
 
 pub painted_none : (g : ℕ → Pixel) (i : ℕ) (s f m : List ℕ) → Painted g i i s f m s f m
 painted_none g i s f m =
@@ -20,4 +20,13 @@ painted_back {g} {i} {e} {s} {f} {m} {s'} {f'} {m'} c v h z k ls lf lm q es ef e
       samples = rw es (filled_back v.sample h'.samples k' ls (ap (λ (p : Pixel). p.sample) q));
       fronts = rw ef (filled_back v.front h'.fronts k' lf (ap (λ (p : Pixel). p.front) q));
       marks = rw em (filled_back v.mark h'.marks k' lm (ap (λ (p : Pixel). p.mark) q));
+    }
+
+-- rules that agree in the part
+pub painted_change : {g k : ℕ → Pixel} {a b : ℕ} {s f m s' f' m' : List ℕ} → Painted g a b s f m s' f' m' → ((p : ℕ) → a ≤ p → p < b → g p ≡ k p) → Painted k a b s f m s' f' m'
+painted_change h e =
+    record {
+      samples = filled_change h.samples (λ p m n. ap (λ (q : Pixel). q.sample) (e p m n));
+      fronts = filled_change h.fronts (λ p m n. ap (λ (q : Pixel). q.front) (e p m n));
+      marks = filled_change h.marks (λ p m n. ap (λ (q : Pixel). q.mark) (e p m n));
     }

@@ -4,7 +4,7 @@
 --     seen_splice                  a part replaced, as the view reads the row
 --     seen_filled                  the part holds what a rule gives
 --     seen_all                     a part that was filled whole
---     seen_part                    a part that was lent, filled and put back
+--     seen_part, painted_seen      parts that were lent, filled and put back
 use Prim.Native.Nat.{ℕ, ◌+◌, ◌-◌, ◌<◌, ◌≤◌}
 use mathlib.Core.Path.{◌≡◌, refl, sym, ap, ◌∙◌}
 use mathlib.Core.Bool.{Bool, true, false}
@@ -12,11 +12,12 @@ use mathlib.Core.List.{List, ◌++◌, reverse, reverse-append, append_assoc}
 use native.Mathlib.Omega.{arith}
 use lib.ListN.{length, get_or, take, drop, length-reverse, length-drop, take-append-drop}
 use lib.Seq.{length-take-le, take_at, drop_at}
+use Rattle.model.specs.declared.Pixel.{Pixel}
 use Rattle.model.specs.Lists.{list_of}
 use Rattle.model.specs.Views.{seen, entry_of}
 use Rattle.model.specs.Span.{first_column}
 use Rattle.model.proofs.Views.{length_seen, seen_seen}
-use Rattle.planes.specs.Parts.{splice, Filled}
+use Rattle.planes.specs.Parts.{splice, Filled, Painted}
 use Rattle.planes.proofs.Fills.{filled_splice, filled_all}
 
 pub first_fits : (r : Bool) (w a n : ℕ) → a + n ≤ w → first_column r w a n + n ≤ w
@@ -85,3 +86,12 @@ module _ {A : Type 0} where
   pub seen_part : (z : A) (f : ℕ → A) (r : Bool) (xs ys : List A) (start n at : ℕ) {x : List A} → start + n ≤ length xs → at ≡ first_column r (length xs) start n → length ys ≡ n → Filled z (λ i. f (start + i)) 0 n x (seen r ys) → Filled z f start (start + n) (seen r xs) (seen r (splice xs at ys))
   seen_part z f r xs ys start n at h e k d =
       rw k at (seen_filled z f r xs ys start at (rw k h) (rw k e) (λ i l. d.inside i (omega arith) (rw k at l)))
+
+-- the three planes of a row, whose parts were lent, painted and put back
+pub painted_seen : (r : Bool) (g : ℕ → Pixel) (start n at w : ℕ) (s f m s' f' m' : List ℕ) {x y z : List ℕ} → start + n ≤ w → at ≡ first_column r w start n → length s ≡ w → length f ≡ w → length m ≡ w → length s' ≡ n → length f' ≡ n → length m' ≡ n → Painted (λ i. g (start + i)) 0 n x y z (seen r s') (seen r f') (seen r m') → Painted g start (start + n) (seen r s) (seen r f) (seen r m) (seen r (splice s at s')) (seen r (splice f at f')) (seen r (splice m at m'))
+painted_seen r g start n at w s f m s' f' m' h e ws wf wm ls lf lm d =
+    record {
+      samples = seen_part 0 (λ p. (g p).sample) r s s' start n at (rw ws h) (rw ws e) ls d.samples;
+      fronts = seen_part 0 (λ p. (g p).front) r f f' start n at (rw wf h) (rw wf e) lf d.fronts;
+      marks = seen_part 0 (λ p. (g p).mark) r m m' start n at (rw wm h) (rw wm e) lm d.marks;
+    }

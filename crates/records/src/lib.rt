@@ -2,12 +2,12 @@
 #![tactic(auto)]
 
 ghost use Rattle.std.specs.Prelude.{◌≡◌, true, ◌+◌, ◌*◌, ◌<◌, ◌≤◌, length};
-ghost use Rattle.model.specs.Journals.{newest, record_end, with_newest};
-ghost use Rattle.model.specs.Refusals.{up_to};
-ghost use Rattle.records.specs.Taken.{NewestRecord};
+ghost use Rattle.model.specs.Journals.{newest, record_end};
+ghost use Rattle.model.specs.Refusals.{answer_number, up_to};
+ghost use Rattle.records.specs.Taken.{NewestRecord, Struck};
 ghost use Rattle.records.specs.Rows.{Narrowed};
 
-use model::Block;
+use model::{Block, Refusal};
 
 // Words as depths.
 #[tactic(auto, using(model::proofs::Refusals::up_to_most))]
@@ -54,13 +54,16 @@ pub fn newest_record(journal: &[u32]) -> Record
     }
 }
 
-// Gives word 0 the index of the record before.
+// Gives word 0 the index of the record before, unless the call is refused, and hands the call's answer on.
 #[tactic(auto, using(model::proofs::Journals::set_newest))]
-pub fn strike(before: u32, journal: &mut [u32])
+pub fn strike<T>(answer: Result<T, Refusal>, before: u32, journal: &mut [u32]) -> Result<T, Refusal>
     requires { 0 < length journal.old }
-    ensures { journal.new ≡ with_newest before journal.old }
+    ensures answer { result ≡ answer }
+    ensures struck { Struck (answer_number answer) before journal.old journal.new }
 {
+    let value = answer?;
     journal[0] = before;
+    Ok(value)
 }
 
 // The rows that are taken next: as many as the room holds, and no more than are left.

@@ -29,7 +29,7 @@ taken_most most [] h i = omega arith
 taken_most most (n ∷ ns) h zero = h.0
 taken_most most (n ∷ ns) h (suc i) = taken_most most ns h.1 i
 
-entry_most : (most n : ℕ) (values : List ℕ) → AtMost most (take n values) → ZeroFrom n values → (i : ℕ) → get_or values i 0 ≤ most
+pub entry_most : (most n : ℕ) (values : List ℕ) → AtMost most (take n values) → ZeroFrom n values → (i : ℕ) → get_or values i 0 ≤ most
 entry_most most n values h z i =
     ⊎_elim (λ (k : i < n). rw (← get_or-take n values i 0 k) (taken_most most (take n values) h i))
     (λ (k : n ≤ i). rw (z i k) (omega arith))

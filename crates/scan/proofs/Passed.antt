@@ -1,6 +1,7 @@
 -- The walk so far: no difference before column x of row y, and the squared errors of the positions before it summed.
 --     passed_none, passed_next, passed_row     a step of the walk
 --     walked_all, walked_at                    what it has found where it ends, or stops
+--     drawn_next, drawn_at                     a step, and the stop, by what the drawn rows show
 use Prim.Native.Nat.{ℕ, ◌+◌, ◌*◌, ◌/◌, ◌%◌, ◌<◌, ◌≤◌}
 use mathlib.Core.Path.{◌≡◌, refl, sym, ◌∙◌}
 use mathlib.Core.Bool.{Bool, true, false}
@@ -75,29 +76,34 @@ module _ {s : Settings} {p : Pictures} {d : Depths} {h : Held} where
         sum_is = λ _. a.sum_is ∙ add-zero _ ∙ sym (total_rows s p d);
       }
 
+  pub passed_next : (y x sum e : ℕ) → x < s.w → Passed s p d h y x sum → same_at s.w h (fresh s p d) y x ≡ true → e ≡ error_at s p d y x → e ≤ worst → Passed s p d h y (x + 1) (sum + e)
+  unfolding sum_to
+  passed_next y x sum e l a t q m =
+      record {
+        same = rw (add-one x, add-suc (y * s.w) x) (first_more (test_at s p d h) (y * s.w + x) a.same (test_here s p d h y x l ∙ t));
+        sum_is = rw (add-one x) (omega (arith, a.sum_is, q));
+        most = omega (arith, a.most, m);
+      }
+
+  pub walked_at : (y x sum : ℕ) → y < s.h → x < s.w → Passed s p d h y x sum → same_at s.w h (fresh s p d) y x ≡ false → Walked s p d h (found (Some (place y x)) sum)
+  unfolding place_of first_difference
+  walked_at y x sum ly lx a t =
+      let k : ℕ = y * s.w + x in
+      let l : k < area s = omega (arith, entry_fits s.w s.h y x ly lx, mul_comm s.h s.w) in
+      let f : first_bad (test_at s p d h) (area s) ≡ k = first_found (test_at s p d h) k (area s) a.same (test_here s p d h y x lx ∙ t) l in
+      record {
+        place_is = sym (rw (f, lt-ltb k (area s) l, digits_div y lx, digits_mod y lx));
+        sum_is = λ q. cc;
+      }
+
   -- column x of row y, of which both views have been drawn: its combined sample is made of what the rows show, and compared with what is held
   module _ {y x sum shown : ℕ} {same : Bool} (v0 v1 : View) (a : Passed s p d h y x sum) (tested : Tested s p d h) (ly : y < s.h) (lx : x < s.w) (is0 : DrawnIs s p d false y v0) (is1 : DrawnIs s p d true y v1)
       (made : shown ≡ combined_of s.share s.tolerance (held_pixel v0.samples v0.fronts v0.marks x) (held_pixel v1.samples v1.fronts v1.marks x)) (compared : same ≡ all_agree s.w h v0 v1 shown y x) where
     seen : Seen s p d h y x shown same
     seen = seen_at s p d h y x shown same v0 v1 tested.common.depths ly lx is0 is1 made compared
 
-    pub passed_next : {r e : ℕ} → same ≡ true → (r ≡ square_error shown (sample_in p.reference (y * s.w + x))) × (r ≤ worst) → e ≡ r → Passed s p d h y (x + 1) (sum + e)
-    unfolding sum_to
-    passed_next {r} {e} t f q =
-        let is : r ≡ error_at s p d y x = error_is s p d y x shown r seen.shown_is f.0 in
-        record {
-          same = rw (add-one x, add-suc (y * s.w) x) (first_more (test_at s p d h) (y * s.w + x) a.same (test_here s p d h y x lx ∙ sym seen.same_is ∙ t));
-          sum_is = rw (add-one x) (omega (arith, a.sum_is, is, q));
-          most = omega (arith, a.most, f.1, q);
-        }
+    pub drawn_next : {r e : ℕ} → same ≡ true → (r ≡ square_error shown (sample_in p.reference (y * s.w + x))) × (r ≤ worst) → e ≡ r → Passed s p d h y (x + 1) (sum + e)
+    drawn_next {r} t f q = passed_next y x sum _ lx a (sym seen.same_is ∙ t) (q ∙ error_is s p d y x shown r seen.shown_is f.0) (omega (arith, f.1, q))
 
-    pub walked_at : same ≡ false → Walked s p d h (found (Some (place y x)) sum)
-    unfolding place_of first_difference
-    walked_at t =
-        let k : ℕ = y * s.w + x in
-        let l : k < area s = omega (arith, entry_fits s.w s.h y x ly lx, mul_comm s.h s.w) in
-        let f : first_bad (test_at s p d h) (area s) ≡ k = first_found (test_at s p d h) k (area s) a.same (test_here s p d h y x lx ∙ sym seen.same_is ∙ t) l in
-        record {
-          place_is = sym (rw (f, lt-ltb k (area s) l, digits_div y lx, digits_mod y lx));
-          sum_is = λ q. cc;
-        }
+    pub drawn_at : same ≡ false → Walked s p d h (found (Some (place y x)) sum)
+    drawn_at t = walked_at y x sum ly lx a (sym seen.same_is ∙ t)

@@ -2,6 +2,7 @@
 --     early_taken                 the tests before 8 are the model's
 --     newest_there, part_there    the newest record lies within the words
 --     taken_requires              what putting it back asks for
+--     handed_on                   what `strike` hands on is what was settled
 --     take_refused, take_settled  the two ways out: refused before the trial, and settled
 use Prim.Native.Nat.{ℕ, ◌+◌, ◌-◌, ◌<◌, ◌≤◌}
 use mathlib.Core.Path.{◌≡◌, refl, ap, sym, ◌∙◌}
@@ -13,7 +14,9 @@ use lib.IntN.{ℤ, pos, sub_ℕ}
 use lib.ListN.{length, take, drop, length-drop}
 use lib.Seq.{length-take-le}
 use borrow.Author.Tests.{not-true, eqb-false}
+use Rattle.std.specs.Prelude.{Result}
 use Rattle.model.specs.declared.Settings.{Settings}
+use Rattle.model.specs.declared.Block.{Block}
 use Rattle.model.specs.declared.Refusal.{Refusal}
 use Rattle.model.specs.Planes.{Pictures, Depths, Held, with_total}
 use Rattle.model.specs.Candidates.{positions}
@@ -25,7 +28,8 @@ use Rattle.model.proofs.Journals as journals
 use Rattle.model.proofs.Journals.{journal_words, journal_newest, taking_sides}
 use Rattle.validate.specs.Numbers.{common_number, sides}
 use Rattle.validate.proofs.Numbers.{lengths_of, common_number_lem}
-use Rattle.judge.specs.Judged.{Verdict}
+use Rattle.judge.specs.declared.Decision.{Decision}
+use Rattle.judge.specs.Judged.{Verdict, verdict}
 use Rattle.settled.specs.Settled.{Settled}
 use Rattle.settled.proofs.Settling.{edit_refused, edit_settled}
 use Rattle.restore.specs.Saved.{SavedIn}
@@ -49,6 +53,9 @@ module _ (s : Settings) (j : List ℕ) (e : taking_then s j 0 ≡ 0) where
   pub length_taken : length (record_depths j (newest j)) ≡ positions (record_block j (newest j))
   unfolding record_depths
   length_taken = length-take-le (positions (record_block j (newest j))) (drop (newest j + 6) j) (rw (length-drop (newest j + 6) j) (omega (arith, newest_taken.end)))
+
+pub handed_on : {s : Settings} {p : Pictures} {d₀ d : Depths} {h₀ h : Held} {v : ℕ} {b : Block} {c : List ℕ} {rest : ℕ} {given answer : Result Decision Refusal} (total : ℕ) → given ≡ answer → Settled s p d₀ d h₀ h v b c rest (verdict total answer) → Settled s p d₀ d h₀ h v b c rest (verdict total given)
+handed_on total e w = rw e w
 
 module _ (s : Settings) (p : Pictures) (d₀ : Depths) (h₀ : Held) (j₀ : List ℕ) where
   -- the number that was found is the model's

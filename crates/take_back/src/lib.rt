@@ -97,8 +97,7 @@ pub fn take_back(
         block,
         &journal[from..to],
     );
-    let decision = restored?;
-    records::strike(record.before, journal);
+    let decision = records::strike(restored, record.before, journal)?;
     Ok(Edited {
         change: decision.change,
         settings: Settings {

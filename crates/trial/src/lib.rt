@@ -119,7 +119,8 @@ fn trial_by_rooms(
     Sums { old, new }
 }
 
-// The same in a room of its own.
+// The same in a room of its own, which is to stand in no frame but this one's.
+#[inline(never)]
 pub fn trial_made(
     v: Source,
     o: Counterpart,

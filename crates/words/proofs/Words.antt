@@ -24,7 +24,7 @@ abbrev pub Bytes : List ℕ → Type 0
 Bytes row = (i : ℕ) → get_or row i 0 < 256
 
 -- a byte shifted into a word loses nothing
-shl_byte : (b n : ℕ) → b < 256 → n < 8 → b * 2 ^ (8 * n) % 2 ^ 64 ≡ b * 2 ^ (8 * n)
+pub shl_byte : (b n : ℕ) → b < 256 → n < 8 → b * 2 ^ (8 * n) % 2 ^ 64 ≡ b * 2 ^ (8 * n)
 shl_byte b n hb hn = shl_exact 8 (8 * n) 64 hb (omega arith)
 
 -- the next byte stands above the others

@@ -60,7 +60,9 @@ pub fn row_holes(row: &[u8], w: usize) -> u32
     n + low_bits(tail, bits).count_ones()
 }
 
-// The marks of 1 at the positions below w of h rows.
+// The marks of 1 at the positions below w of h rows. It stays a function of its own: taken into the exported one, its loops keep less in
+// registers.
+#[inline(never)]
 #[tactic(auto, unfolding(model::specs::Marks::holes_in, model::specs::Lists::sum_to))]
 pub fn holes(marks: &[u8], w: usize, h: usize) -> u64
     requires { (w ≤ 4096) × ((h ≤ 4096) × (length marks.now ≡ mark_bytes w * h)) }

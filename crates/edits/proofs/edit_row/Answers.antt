@@ -9,8 +9,8 @@ use Rattle.edits.proofs.edit_row.Goals as goal
 pub returns : goal.returns
 returns c =
     record {
-      depths = put_back c.args.depths.now _ c.args.column (length c.args.candidate.now) (ap length c.copy_from_slice.ensures.after)
-          ∙ ap (splice c.args.depths.now c.args.column) c.copy_from_slice.ensures.after;
+      depths = put_back c.args.depths.now _ c.args.column (length c.args.candidate.now) (ap length c.write.ensures)
+          ∙ ap (splice c.args.depths.now c.args.column) c.write.ensures;
       low = c.saturating_sub.ensures
           ∙ low_is _ _ _ _ c.args.first (length c.args.candidate.now) c.requires.candidate_nonzero.0 c.row_low-old.ensures c.least_place-least.ensures;
     }

@@ -12,7 +12,7 @@ pub loop-k-preserved : goal.loop-k-preserved
 loop-k-preserved c =
     let fits : c.loop-k.k * c.args.width + c.args.width ≤ length c.loop-k.room = omega (arith, row_holds c.args.width _ c.args.n c.loop-k.k _ c.in-Regions.is c.requires.room_len.0 c.loop-k-test.true) in
     let row = rw (part_length c.loop-k.room (c.loop-k.k * c.args.width) c.args.width fits) at c.fill_regions.ensures in
-    rows_more c.args.width c.loop-k.k (λ j. filled_row c.args.width _ c.args.bytes.now (c.args.i + j)) c.loop-k.room _ fits (ap length row ∙ row_wide c.args.width _ _ _ _ (c.args.i + c.loop-k.k)) row c.loop-k.invariant
+    (rows_more c.args.width c.loop-k.k (λ j. filled_row c.args.width _ c.args.bytes.now (c.args.i + j)) c.loop-k.room _ fits (ap length row ∙ row_wide c.args.width _ _ _ _ (c.args.i + c.loop-k.k)) row c.loop-k.invariant).1
 
 pub returns-in_default : goal.returns-in_default
 returns-in_default c =

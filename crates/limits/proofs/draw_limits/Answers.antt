@@ -12,7 +12,7 @@ loop-c-init c = limits_none _ _ _ _
 
 pub loop-c-preserved : goal.loop-c-preserved
 loop-c-preserved c =
-    limits_next _ c.loop-c.invariant (omega arith) (omega arith) (omega (arith, length_seen c.args.right c.loop-c.limits))
+    limits_next _ c.loop-c.invariant (omega arith) (omega (arith, length_seen c.args.right c.loop-c.limits))
     (c.min-top.ensures ∙ ap (λ (p : ℕ). min p c.loop-c.top) c.place_of.ensures)
     (to_z-of_z w16 c.limit_of.result (record { sfits = c.limit_of.type_inv }) ∙ c.limit_of.ensures)
     c.put_limit.ensures

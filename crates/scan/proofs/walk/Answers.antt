@@ -6,7 +6,7 @@ use Rattle.model.specs.Combined.{square_error}
 use Rattle.model.proofs.Totals.{combined_most}
 use Rattle.marks.proofs.Held.{held_most}
 use Rattle.scan.proofs.Tested.{tested}
-use Rattle.scan.proofs.Passed.{passed_none, passed_next, passed_row, walked_all, walked_at}
+use Rattle.scan.proofs.Passed.{passed_none, passed_row, walked_all, drawn_next, drawn_at}
 use Rattle.scan.proofs.walk.Goals as goal
 
 pub rows-init : goal.rows-init
@@ -18,7 +18,7 @@ square_error-requires c = (c.requires.squares, (rw c.shown_at-shown.ensures (com
 pub loop-x-preserved : goal.loop-x-preserved
 loop-x-preserved c = record {
   none = c.loop-x.invariant.none;
-  passed = passed_next _ _ c.loop-x.invariant.passed c.rows.invariant.tested c.rows-test.true c.loop-x-test.true c.draw_front.ensures c.draw_front-in-rows.ensures c.shown_at-shown.ensures c.same_at.ensures c.if-not-same_at.false
+  passed = drawn_next _ _ c.loop-x.invariant.passed c.rows.invariant.tested c.rows-test.true c.loop-x-test.true c.draw_front.ensures c.draw_front-in-rows.ensures c.shown_at-shown.ensures c.same_at.ensures c.if-not-same_at.false
       (c.square_error.ensures.0 ∙ ap (square_error _) c.sample_in-wanted.ensures.0, c.square_error.ensures.1)
       c.from-sum.ensures;
 }
@@ -31,4 +31,4 @@ returns-after-rows c = walked_all _ _ _ c.rows.invariant.none (omega arith) c.ro
 
 pub returns-then-not-same_at : goal.returns-then-not-same_at
 returns-then-not-same_at c =
-    walked_at _ _ c.loop-x.invariant.passed c.rows.invariant.tested c.rows-test.true c.loop-x-test.true c.draw_front.ensures c.draw_front-in-rows.ensures c.shown_at-shown.ensures c.same_at.ensures c.if-not-same_at.true
+    drawn_at _ _ c.loop-x.invariant.passed c.rows.invariant.tested c.rows-test.true c.loop-x-test.true c.draw_front.ensures c.draw_front-in-rows.ensures c.shown_at-shown.ensures c.same_at.ensures c.if-not-same_at.true

@@ -7,4 +7,4 @@ use Rattle.signed.proofs.raised_of.Goals as goal
 pub returns : goal.returns
 returns c =
     let f : SFits w32 c.clamp.result = search rules in
-    rw (to_z-of_z w32 c.clamp.result f) (raised_clamp c.args.limit c.clamp.result (omega (arith, ints, clamps)))
+    rw (to_z-of_z w32 c.clamp.result f) (raised_clamp c.args.limit c.clamp.result (grind (arith, ints, clamps)))
